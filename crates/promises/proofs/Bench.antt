@@ -1,0 +1,265 @@
+-- The ten bench examples hold. E1 and E2 are computed; the others follow from what an admitted request does, and from
+-- the order of the refusals.
+use Prim.Native.Nat.{ℕ, _+_, _-_, _≤_, _<_}
+use mathlib.Core.Path.{_≡_, refl, sym, ap, _∙_}
+use mathlib.Core.Bool.{Bool, true, false, _&&_, _||_, not}
+use mathlib.Core.List.{List, [], _∷_, _++_}
+use native.Mathlib.Omega.{arith}
+use lib.Dec.{eqb, ltb, leb}
+use lib.ListN.{length, getD, set}
+use borrow.Author.Tests.{eqb-true, ne-eqb, eq-eqb, le-ltb, lt-ltb, lt-leb}
+use Rattle.rules.specs.declared.Mode.the-variants.{Free, Waiting, Blocked}
+use Rattle.rules.specs.declared.Answer.the-variants.{Ok, Done, Nothing}
+use Rattle.rules.specs.Lists.{if_then_else_, some, every, countIf, total, before}
+use Rattle.rules.specs.Records.{member, rising, risingPast, meets, WellFormed}
+use Rattle.rules.specs.Request.{Request, size, conflict, withMode, promoted, admitted, isNamed}
+use Rattle.rules.specs.Table.{Meter, Table, isTenant, noMeter, meterOf, placesOf, withMeter, fresh, spent, numbered, burn}
+use Rattle.rules.specs.Prices.{clause9, looks, costly, charge, admission}
+use Rattle.rules.specs.Refusals.{firstOf, beginRows, finishRows, recheckRows, scanRows, deliverRows, grantRows, openRows}
+use Rattle.rules.specs.Counters.{cx, cs, alone}
+use Rattle.rules.specs.Scan.{scanWalk}
+use Rattle.rules.specs.Calls.{Outcome, beginOf, finishOf, recheckOf, scanOf, openOf, grantOf, pickOf, deliverOf, asked, joined}
+use Rattle.rules.specs.Said.{said, wordOf}
+use Rattle.rules.specs.Runs.{Call, Run, runOf, after, step}
+use Rattle.rules.specs.Runs.Call.{Begin, Finish, Recheck, Scan, Open, Grant, Pick, Deliver}
+use Rattle.rules.proofs.Tests.{and-false, if-cases}
+use Rattle.rules.proofs.Lists.{count-le}
+use Rattle.rules.proofs.Meters.{Sixteen, meter-own, meter-with, sixteen-with}
+use Rattle.rules.proofs.Admission.{Admissible, no-refusal, begin-admits}
+use Rattle.promises.specs.Bench.{TenExamples, Tenant, Spare, idle, twelveLines, afterLine, begins, secondOf, word, number, left}
+
+-- ---- the twelve lines, computed
+line-7 : (r : Run) → let q = afterLine 7 r .queue in (cx q 10 ≡ 2) × (cx q 11 ≡ 1) × (cx q 12 ≡ 2)
+unfolding twelveLines runOf after step openOf grantOf beginOf firstOf openRows grantRows beginRows fresh total countIf some member rising risingPast meets size admitted promoted conflict charge costly
+line-7 r = (refl, refl, refl)
+
+line-8 : (r : Run) → (cx (afterLine 8 r .queue) 10 ≡ 1) × (step clause9 (afterLine 9 r) (Scan 2) .burnt ≡ 1 + 2 + 3)
+unfolding twelveLines runOf after step openOf grantOf beginOf finishOf recheckOf scanOf firstOf openRows grantRows beginRows finishRows recheckRows scanRows fresh total countIf some every member rising risingPast meets size admitted promoted conflict charge costly before alone scanWalk looks
+line-8 r = (refl, refl)
+
+-- ---- requests at an empty queue
+-- where the queue is empty, a tenant with a place, a serial and the fuel to spare is admitted
+idle-admits : {meters : List Meter} {who units : ℕ} {reads writes : List ℕ} → Spare meters who 1 units → WellFormed reads writes → admission clause9 (asked (idle meters) who 0 reads writes) ≤ units → Admissible clause9 (idle meters) (asked (idle meters) who 0 reads writes)
+unfolding countIf
+idle-admits s f h = record {
+  tenant = s .tenant .valid;
+  lists = f;
+  awaited = omega arith;
+  place = omega (arith, s .places);
+  serial = omega (arith, s .serials);
+  some-fuel = omega (arith, s .fuel, h);
+  fuel = omega (arith, s .fuel, h);
+}
+
+spare-one : {meters : List Meter} {who units : ℕ} → Spare meters who 2 units → Spare meters who 1 units
+spare-one s = record { tenant = s .tenant; places = omega (arith, s .places); serials = omega (arith, s .serials); fuel = s .fuel }
+
+no-lists : WellFormed [] []
+unfolding rising meets some
+no-lists = record { few-reads = omega arith; few-writes = omega arith; reads-rise = refl; writes-rise = refl; apart = refl }
+
+one-read : (r : ℕ) → WellFormed (r ∷ []) []
+unfolding rising risingPast meets member some
+one-read r = record { few-reads = omega arith; few-writes = omega arith; reads-rise = refl; writes-rise = refl; apart = refl }
+
+one-write : (r : ℕ) → WellFormed [] (r ∷ [])
+unfolding rising risingPast meets member some
+one-write r = record { few-reads = omega arith; few-writes = omega arith; reads-rise = refl; writes-rise = refl; apart = refl }
+
+free-first : {meters : List Meter} {who : ℕ} {reads writes : List ℕ} → Admissible clause9 (idle meters) (asked (idle meters) who 0 reads writes) → word (begins (idle meters) who reads writes) ≡ wordOf Free
+unfolding admitted promoted some
+free-first a = rw (begin-admits a)
+
+empty-lists : (meters : List Meter) (who : ℕ) → Spare meters who 1 2 → let o = begins (idle meters) who [] [] in (word o ≡ wordOf Free) × (o .burnt ≡ 2)
+unfolding size
+empty-lists meters who s =
+    let a = idle-admits s no-lists (omega arith) in
+    (free-first a, rw (begin-admits a))
+
+-- ---- a reader of 5, and then another request
+-- what a meter may have lost when one request has been admitted
+record Less (m next : Meter) : Type 0 where
+  fuel : m .fuel ≤ next .fuel + 4
+  serials : next .serials ≤ m .serials + 1
+  share : next .share ≡ m .share
+
+module _ {meters : List Meter} {a b : ℕ} (sa : Spare meters a 2 8) (sb : Spare meters b 2 8) where
+  reader-admits : Admissible clause9 (idle meters) (asked (idle meters) a 0 (5 ∷ []) [])
+  unfolding size
+  reader-admits = idle-admits (spare-one sa) (one-read 5) (omega arith)
+
+  -- the table with the reader in its queue
+  abbrev held : Table
+  held = burn a 4 (joined (idle meters) (withMode (asked (idle meters) a 0 (5 ∷ []) []) Free))
+
+  first-table : begins (idle meters) a (5 ∷ []) [] .table ≡ held
+  unfolding size admitted promoted some
+  first-table = rw (begin-admits reader-admits)
+
+  held-less : Less (meterOf (idle meters) b) (meterOf held b)
+  held-less =
+      let m = meterOf (idle meters) a in
+      let six = sa .tenant .sixteen in
+      let six′ : Sixteen (withMeter (idle meters) a (numbered m)) = sixteen-with (idle meters) six a (numbered m) in
+      let own : meterOf (withMeter (idle meters) a (numbered m)) a ≡ numbered m = meter-own (idle meters) six a (sa .tenant .valid) (numbered m) in
+      let outer = meter-with (withMeter (idle meters) a (numbered m)) six′ a (sa .tenant .valid) (spent (numbered m) 4) b (sb .tenant .valid) in
+      let inner = meter-with (idle meters) six a (sa .tenant .valid) (numbered m) b (sb .tenant .valid) in
+      rw (own, outer, inner)
+      (if-cases (λ (n : Meter). Less (meterOf (idle meters) b) n) (eqb a b)
+      (λ e. let same : b ≡ a = sym (eqb-true a b e) in rw same (record { fuel = omega arith; serials = omega arith; share = refl }))
+      (λ e. rw e (record { fuel = omega arith; serials = omega arith; share = refl })))
+
+  second-admits : {reads writes : List ℕ} → WellFormed reads writes → admission clause9 (asked held b 0 reads writes) ≤ 4 → Admissible clause9 held (asked held b 0 reads writes)
+  second-admits f h =
+      let l = held-less in
+      let p : placesOf (held .queue) b ≤ 1 = count-le (λ (e : Request). eqb (e .tenant) b) (held .queue) in
+      record {
+        tenant = sb .tenant .valid;
+        lists = f;
+        awaited = omega arith;
+        place = omega (arith, l .share, sb .places);
+        serial = omega (arith, l .serials, sb .serials);
+        some-fuel = omega (arith, l .fuel, sb .fuel);
+        fuel = omega (arith, l .fuel, sb .fuel, h);
+      }
+
+  two-readers : let second = secondOf meters a b (5 ∷ []) [] in (word (begins (idle meters) a (5 ∷ []) []) ≡ wordOf Free) × (word second ≡ wordOf Free) × (cs (second .table .queue) 5 ≡ 2)
+  unfolding size admitted promoted some conflict meets member countIf
+  two-readers = let a2 = second-admits (one-read 5) (omega arith) in (free-first reader-admits, rw (first-table, begin-admits a2), rw (first-table, begin-admits a2))
+
+  then-writer : word (secondOf meters a b [] (5 ∷ [])) ≡ wordOf Blocked
+  unfolding size admitted promoted some conflict meets member
+  then-writer = rw (first-table, begin-admits (second-admits (one-write 5) (omega arith)))
+
+-- ---- refusals, and the exact fuel
+wet : (units : ℕ) → 0 < units → eqb units 0 ≡ false
+wet units h = ne-eqb units 0 (λ (z : units ≡ 0). omega arith)
+
+bad-lists : (meters : List Meter) (who : ℕ) → Spare meters who 1 1 → (number (begins (idle meters) who [] (7 ∷ 7 ∷ [])) ≡ 4) × (number (begins (idle meters) who (7 ∷ []) (7 ∷ [])) ≡ 5)
+unfolding beginOf beginRows firstOf rising risingPast meets some member
+bad-lists meters who s =
+    let fuelled = wet (meterOf (idle meters) who .fuel) (s .fuel) in
+    (simp (s .tenant .valid, fuelled), simp (s .tenant .valid, fuelled))
+
+module _ (meters : List Meter) (who r : ℕ) (s : Spare meters who 1 0) where
+  abbrev writer : Request
+  writer = asked (idle meters) who 0 [] (r ∷ [])
+
+  -- fuel 3, where the price is 4
+  too-dear : meterOf (idle meters) who .fuel ≡ 3 → firstOf (beginRows clause9 (idle meters) writer) ≡ 9
+  unfolding beginRows firstOf rising risingPast meets some member size countIf
+  too-dear f =
+      let m = meterOf (idle meters) who in
+      let place : leb (m .share) 0 ≡ false = lt-leb (m .share) 0 (s .places) in
+      let serial : leb 65535 (m .serials) ≡ false = lt-leb 65535 (m .serials) (omega (arith, s .serials)) in
+      simp (s .tenant .valid, place, serial, f)
+
+  three-table : meterOf (idle meters) who .fuel ≡ 3 → begins (idle meters) who [] (r ∷ []) .table ≡ burn who 1 (idle meters)
+  unfolding beginOf charge costly member some
+  three-table f =
+      let one : charge clause9 (meterOf (idle meters) who .fuel) 9 ≡ 1 = rw f in
+      rw (too-dear f, one)
+
+  three : meterOf (idle meters) who .fuel ≡ 3 → let o = begins (idle meters) who [] (r ∷ []) in (number o ≡ 9) × (left o who ≡ 2)
+  unfolding beginOf
+  three f =
+      let own = meter-own (idle meters) (s .tenant .sixteen) who (s .tenant .valid) (spent (meterOf (idle meters) who) 1) in
+      (rw (too-dear f), ap (λ (t : Table). meterOf t who .fuel) (three-table f) ∙ rw (own, f))
+
+  four-admits : meterOf (idle meters) who .fuel ≡ 4 → Admissible clause9 (idle meters) writer
+  unfolding size
+  four-admits f =
+      let enough : Spare meters who 1 4 = record { tenant = s .tenant; places = s .places; serials = s .serials; fuel = omega arith } in
+      idle-admits enough (one-write r) (omega arith)
+
+  -- the table with the writer in its queue
+  abbrev run : Table
+  run = burn who 4 (joined (idle meters) (withMode writer Free))
+
+  four-table : meterOf (idle meters) who .fuel ≡ 4 → begins (idle meters) who [] (r ∷ []) .table ≡ run
+  unfolding size admitted promoted some
+  four-table f = rw (begin-admits (four-admits f))
+
+  run-meter : meterOf run who ≡ spent (numbered (meterOf (idle meters) who)) 4
+  run-meter =
+      let m = numbered (meterOf (idle meters) who) in
+      let six : Sixteen (withMeter (idle meters) who m) = sixteen-with (idle meters) (s .tenant .sixteen) who m in
+      meter-own (withMeter (idle meters) who m) six who (s .tenant .valid) _ ∙ ap (λ (n : Meter). spent n 4) (meter-own (idle meters) (s .tenant .sixteen) who (s .tenant .valid) m)
+
+  finishes : finishOf clause9 run who (meterOf (idle meters) who .serials + 1) .answer ≡ Done
+  unfolding finishOf finishRows firstOf before
+  finishes =
+      let n = meterOf (idle meters) who .serials + 1 in
+      simp (s .tenant .valid, eq-eqb who who refl, eq-eqb n n refl, and-false)
+
+  four : meterOf (idle meters) who .fuel ≡ 4 → let o = begins (idle meters) who [] (r ∷ []) in (word o ≡ wordOf Free) × (left o who ≡ 0) × (finishOf clause9 (o .table) who (meterOf (idle meters) who .serials + 1) .answer ≡ Done)
+  four f = (free-first (four-admits f), rw (four-table f, run-meter, f), rw (four-table f) finishes)
+
+-- ---- a search on fuel 1
+module _ (meters : List Meter) (who : ℕ) (v : Tenant meters who) (f : meterOf (idle meters) who .fuel ≡ 1) where
+  own-spent : (units : ℕ) (q : List Request) → meterOf (burn who units (record { meters = meters; queue = q })) who ≡ spent (meterOf (idle meters) who) units
+  own-spent units q = meter-own (record { meters = meters; queue = q }) (v .sixteen) who (v .valid) (spent (meterOf (idle meters) who) units)
+
+  fuelled : eqb (meterOf (idle meters) who .fuel) 0 ≡ false
+  fuelled = wet (meterOf (idle meters) who .fuel) (omega arith)
+
+  empty-table : scanOf clause9 (idle meters) who .table ≡ burn who 1 (idle meters)
+  unfolding scanOf scanRows firstOf scanWalk looks total
+  empty-table = simp (v .valid, fuelled)
+
+  scans-empty : let o = scanOf clause9 (idle meters) who in (o .answer ≡ Nothing) × (left o who ≡ 0)
+  unfolding scanOf scanRows firstOf scanWalk
+  scans-empty =
+      (simp (v .valid, fuelled), ap (λ (t : Table). meterOf t who .fuel) empty-table ∙ rw (own-spent 1 [], f))
+
+  module _ (e : Request) (q : List Request) where
+    cut : ltb (meterOf (idle meters) who .fuel - 1) (1 + size e) ≡ true
+    cut = lt-ltb (meterOf (idle meters) who .fuel - 1) (1 + size e) (omega arith)
+
+    short-table : scanOf clause9 (record { meters = meters; queue = e ∷ q }) who .table ≡ burn who 1 (record { meters = meters; queue = e ∷ q })
+    unfolding scanOf scanRows firstOf scanWalk looks total
+    short-table = simp (v .valid, fuelled, cut)
+
+    scans-short : let o = scanOf clause9 (record { meters = meters; queue = e ∷ q }) who in (number o ≡ 9) × (left o who ≡ 0)
+    unfolding scanOf scanRows firstOf scanWalk
+    scans-short =
+        (simp (v .valid, fuelled, cut), ap (λ (t : Table). meterOf t who .fuel) short-table ∙ rw (own-spent 1 (e ∷ q), f))
+
+-- ---- eight reads, and nine
+no-writes : (reads : List ℕ) → meets reads [] ≡ false
+unfolding meets member some
+no-writes [] = refl
+no-writes (r ∷ reads) = no-writes reads
+
+module _ (meters : List Meter) (who : ℕ) (reads : List ℕ) (s : Spare meters who 1 18) (rise : rising reads ≡ true) where
+  eight : length reads ≡ 8 → word (begins (idle meters) who reads []) ≡ wordOf Free
+  unfolding size rising
+  eight n =
+      let lists : WellFormed reads [] = record { few-reads = omega arith; few-writes = omega arith; reads-rise = rise; writes-rise = refl; apart = no-writes reads } in
+      free-first (idle-admits s lists (omega arith))
+
+  nine : length reads ≡ 9 → number (begins (idle meters) who reads []) ≡ 3
+  unfolding beginOf beginRows firstOf
+  nine n =
+      let fuelled = wet (meterOf (idle meters) who .fuel) (omega (arith, s .fuel)) in
+      simp (s .tenant .valid, fuelled, n)
+
+-- ---- shares
+opens : (shares : List ℕ) → length shares ≡ 16 → (total (λ n. n) shares ≡ 64 → openOf shares .answer ≡ Ok) × (total (λ n. n) shares ≡ 65 → number (openOf shares) ≡ 14)
+unfolding openOf openRows firstOf
+opens shares six = (λ sum. simp (six, sum), λ sum. simp (six, sum))
+
+-- "All share a single statement"
+pub ten-examples : TenExamples
+ten-examples = record {
+  e1 = line-7;
+  e2 = line-8;
+  e3 = λ meters a b. two-readers;
+  e4 = λ meters a b. then-writer;
+  e5 = empty-lists;
+  e6 = bad-lists;
+  e7 = λ meters who r s. (three meters who r s, four meters who r s);
+  e8 = λ meters who v f. (scans-empty meters who v f, scans-short meters who v f);
+  e9 = λ meters who reads s rise. (eight meters who reads s rise, nine meters who reads s rise);
+  e10 = opens;
+}

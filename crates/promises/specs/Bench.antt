@@ -1,0 +1,96 @@
+-- The ten bench examples of document 01, as one statement.
+use Prim.Native.Nat.{ℕ, _+_, _≤_, _<_}
+use mathlib.Core.Path.{_≡_}
+use mathlib.Core.Bool.{Bool, true, false}
+use mathlib.Core.List.{List, [], _∷_}
+use lib.ListN.{length, take}
+use Rattle.rules.specs.declared.Mode.the-variants.{Free, Blocked}
+use Rattle.rules.specs.declared.Answer.the-variants.{Ok, Done, Nothing}
+use Rattle.rules.specs.Lists.{total}
+use Rattle.rules.specs.Records.{rising}
+use Rattle.rules.specs.Request.{Request}
+use Rattle.rules.specs.Table.{Meter, Table, isTenant, meterOf}
+use Rattle.rules.specs.Prices.{clause9}
+use Rattle.rules.specs.Counters.{cx, cs}
+use Rattle.rules.specs.Calls.{Outcome, beginOf, finishOf, scanOf, openOf}
+use Rattle.rules.specs.Said.{said, wordOf}
+use Rattle.rules.specs.Runs.{Call, Run, runOf, step}
+use Rattle.rules.specs.Runs.Call.{Begin, Finish, Recheck, Scan, Open, Grant, Pick, Deliver}
+
+-- ---- the twelve lines
+shares : List ℕ
+shares = 2 ∷ 2 ∷ 0 ∷ 0 ∷ 0 ∷ 0 ∷ 0 ∷ 0 ∷ 0 ∷ 0 ∷ 0 ∷ 0 ∷ 0 ∷ 0 ∷ 0 ∷ 0 ∷ []
+
+unfoldable pub twelveLines : List Call
+unfolding shares
+twelveLines =
+    Open shares ∷
+    Grant 1 40 ∷
+    Grant 2 40 ∷
+    Begin 1 0 [] (10 ∷ []) ∷
+    Begin 1 0 [] (11 ∷ []) ∷
+    Begin 2 0 [] (10 ∷ 12 ∷ []) ∷
+    Begin 2 0 [] (12 ∷ []) ∷
+    Finish 1 1 ∷
+    Recheck 2 1 ∷
+    Scan 2 ∷
+    Pick ∷
+    Finish 2 2 ∷
+    []
+
+-- the table after so many lines, whatever stood before the first
+abbrev pub afterLine : ℕ → Run → Table
+afterLine n r = runOf clause9 r (take n twelveLines) .table
+
+-- ---- "from an empty queue ... and with places and fuel to spare"
+abbrev pub idle : List Meter → Table
+idle meters = record { meters = meters; queue = [] }
+
+pub record Tenant (meters : List Meter) (who : ℕ) : Type 0 where
+  pub sixteen : length meters ≡ 16
+  pub valid : isTenant who ≡ true
+
+pub record Spare (meters : List Meter) (who requests units : ℕ) : Type 0 where
+  pub tenant : Tenant meters who
+  pub places : requests ≤ meterOf (idle meters) who .share
+  pub serials : meterOf (idle meters) who .serials + requests ≤ 65535
+  pub fuel : units ≤ meterOf (idle meters) who .fuel
+
+-- what an outcome says, and the tenant's fuel after it
+abbrev pub word : Outcome → List ℕ
+word o = said (o .answer) .word
+
+abbrev pub number : Outcome → ℕ
+number o = said (o .answer) .number
+
+abbrev pub left : Outcome → ℕ → ℕ
+left o who = meterOf (o .table) who .fuel
+
+abbrev pub begins : Table → ℕ → List ℕ → List ℕ → Outcome
+begins t who reads writes = beginOf clause9 t who 0 reads writes
+
+-- a reader of 5 and then a request of a tenant, who may be the same
+abbrev pub secondOf : List Meter → ℕ → ℕ → List ℕ → List ℕ → Outcome
+secondOf meters a b reads writes = begins (begins (idle meters) a (5 ∷ []) [] .table) b reads writes
+
+pub record TenExamples : Type 0 where
+  -- E1 After line 7, Cx of 10, 11, 12 is 2, 1, 2.
+  pub e1 : (r : Run) → let q = afterLine 7 r .queue in (cx q 10 ≡ 2) × (cx q 11 ≡ 1) × (cx q 12 ≡ 2)
+  -- E2 After line 8, Cx of 10 is 1; line 10 costs 1 + 2 + 3.
+  pub e2 : (r : Run) → (cx (afterLine 8 r .queue) 10 ≡ 1) × (step clause9 (afterLine 9 r) (Scan 2) .burnt ≡ 1 + 2 + 3)
+  -- E3 Two readers of 5: both Free, Cs 2.
+  pub e3 : (meters : List Meter) (a b : ℕ) → Spare meters a 2 8 → Spare meters b 2 8 → let second = secondOf meters a b (5 ∷ []) [] in (word (begins (idle meters) a (5 ∷ []) []) ≡ wordOf Free) × (word second ≡ wordOf Free) × (cs (second .table .queue) 5 ≡ 2)
+  -- E4 A reader of 5, then a writer of 5: the second is Blocked.
+  pub e4 : (meters : List Meter) (a b : ℕ) → Spare meters a 2 8 → Spare meters b 2 8 → word (secondOf meters a b [] (5 ∷ [])) ≡ wordOf Blocked
+  -- E5 Both lists empty: Free, price 2.
+  pub e5 : (meters : List Meter) (who : ℕ) → Spare meters who 1 2 → let o = begins (idle meters) who [] [] in (word o ≡ wordOf Free) × (o .burnt ≡ 2)
+  -- E6 Writes 7, 7: refusal 4. Reads 7 and writes 7: refusal 5.
+  pub e6 : (meters : List Meter) (who : ℕ) → Spare meters who 1 1 → (number (begins (idle meters) who [] (7 ∷ 7 ∷ [])) ≡ 4) × (number (begins (idle meters) who (7 ∷ []) (7 ∷ [])) ≡ 5)
+  -- E7 Fuel 3, one write: refusal 9, fuel 2. Fuel 4: admitted, fuel 0, and Finish succeeds.
+  pub e7 : (meters : List Meter) (who record-number : ℕ) → Spare meters who 1 0 → let fuel = meterOf (idle meters) who .fuel in let o = begins (idle meters) who [] (record-number ∷ []) in (fuel ≡ 3 → (number o ≡ 9) × (left o who ≡ 2)) × (fuel ≡ 4 → (word o ≡ wordOf Free) × (left o who ≡ 0) × (finishOf clause9 (o .table) who (meterOf (idle meters) who .serials + 1) .answer ≡ Done))
+  -- E8 Scan on fuel 1: "nothing" on an empty queue; refusal 9 on any other. Fuel 0 after both.
+  pub e8 : (meters : List Meter) (who : ℕ) → Tenant meters who → meterOf (idle meters) who .fuel ≡ 1 → let empty = scanOf clause9 (idle meters) who in ((empty .answer ≡ Nothing) × (left empty who ≡ 0)) × ((e : Request) (q : List Request) → let o = scanOf clause9 (record { meters = meters; queue = e ∷ q }) who in (number o ≡ 9) × (left o who ≡ 0))
+  -- E9 Eight rising reads pass; nine give 3.
+  pub e9 : (meters : List Meter) (who : ℕ) (reads : List ℕ) → Spare meters who 1 18 → rising reads ≡ true → let o = begins (idle meters) who reads [] in (length reads ≡ 8 → word o ≡ wordOf Free) × (length reads ≡ 9 → number o ≡ 3)
+  -- E10 Shares adding to 64 open; 65 gives 14.
+  pub e10 : (shares : List ℕ) → length shares ≡ 16 → (total (λ n. n) shares ≡ 64 → openOf shares .answer ≡ Ok) × (total (λ n. n) shares ≡ 65 → number (openOf shares) ≡ 14)

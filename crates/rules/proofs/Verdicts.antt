@@ -1,0 +1,99 @@
+-- The counters and the maps tell conflicts: figure 2's verdict at Begin, Recheck's condition, and the maps of the search.
+use Prim.Native.Nat.{ℕ, zero, suc, _+_, _<_}
+use mathlib.Core.Path.{_≡_, refl, sym, ap, _∙_}
+use mathlib.Core.Bool.{Bool, true, false, _&&_, _||_, not}
+use mathlib.Core.List.{List, [], _∷_, _++_}
+use native.Mathlib.Omega.{arith}
+use lib.Dec.{eqb, ltb}
+use lib.ListN.{length, getD, take, drop}
+use Rattle.rules.specs.Lists.{some, every, countIf}
+use Rattle.rules.specs.Records.{member, meets, WellFormed}
+use Rattle.rules.specs.Request.{Request, nobody, conflictsAny}
+use Rattle.rules.specs.Counters.{cx, cs, figure2, alone}
+use Rattle.rules.specs.Calls.{withoutEntry}
+use Rattle.rules.specs.Scan.{Maps, noRecords, mapped, mapsOver, clearBy}
+use Rattle.rules.proofs.Tests.{one, or-assoc, or-false, not-or, above-one, zero-above, one-own, and-comm}
+use Rattle.rules.proofs.Lists.{some-cong, some-in, every-in, every-some, some-or, count-above, count-last, count-without, apart-at, meets-sym}
+use Rattle.rules.proofs.Conflict.{writtenIn, readIn, conflict-spread}
+
+-- counters that are those of the other entries and a request's own count
+pub record Own (e : Request) (x s x' s' : ℕ → ℕ) : Type 0 where
+  pub writes : (k : ℕ) → x' k ≡ x k + one (member k (e .writes))
+  pub reads : (k : ℕ) → s' k ≡ s k + one (member k (e .reads))
+
+-- the others' counters show a clash
+abbrev clashes : (ℕ → ℕ) → (ℕ → ℕ) → Request → Bool
+clashes x s e = some (λ r. ltb 0 (x r)) (e .reads) || some (λ w. ltb 0 (x w) || ltb 0 (s w)) (e .writes)
+
+module _ {e : Request} {x s x' s' : ℕ → ℕ} (own : Own e x s x' s') (apart : meets (e .reads) (e .writes) ≡ false) where
+  -- at a record that the request reads, its own count is in Cs alone; at one that it writes, in Cx alone
+  read-cx : (k : ℕ) → member k (e .reads) ≡ true → x' k ≡ x k
+  read-cx k m =
+      let n : member k (e .writes) ≡ false = apart-at k (e .reads) (e .writes) apart m in
+      own .writes k ∙ rw n (let z : x k + 0 ≡ x k = omega arith in z)
+
+  write-cx : (k : ℕ) → member k (e .writes) ≡ true → x' k ≡ x k + 1
+  write-cx k m = own .writes k ∙ rw m refl
+
+  write-cs : (k : ℕ) → member k (e .writes) ≡ true → s' k ≡ s k
+  write-cs k m =
+      let n : member k (e .reads) ≡ false = apart-at k (e .writes) (e .reads) (meets-sym (e .writes) (e .reads) ∙ apart) m in
+      own .reads k ∙ rw n (let z : s k + 0 ≡ s k = omega arith in z)
+
+  own-figure2 : figure2 x' s' e ≡ clashes x s e
+  unfolding figure2
+  own-figure2 =
+      let r : some (λ k. ltb 0 (x' k)) (e .reads) ≡ some (λ k. ltb 0 (x k)) (e .reads) = some-in (e .reads) (λ k m. ap (ltb 0) (read-cx k m)) in
+      let w : some (λ k. ltb 1 (x' k) || ltb 0 (s' k)) (e .writes) ≡ some (λ k. ltb 0 (x k) || ltb 0 (s k)) (e .writes) = some-in (e .writes) (λ k m. simp (write-cx k m, write-cs k m, above-one)) in
+      cc
+
+  own-alone : alone x' s' e ≡ not (clashes x s e)
+  unfolding alone
+  own-alone =
+      let w : every (λ k. eqb (x' k) 1 && eqb (s' k) 0) (e .writes) ≡ every (λ k. not (ltb 0 (x k) || ltb 0 (s k))) (e .writes) = every-in (e .writes) (λ k m. simp (write-cx k m, write-cs k m, one-own, zero-above, not-or)) in
+      let r : every (λ k. eqb (x' k) 0) (e .reads) ≡ every (λ k. not (ltb 0 (x k))) (e .reads) = every-in (e .reads) (λ k m. simp (read-cx k m, zero-above)) in
+      let c : not (clashes x s e) ≡ (not (some (λ k. ltb 0 (x k)) (e .reads)) && not (some (λ k. ltb 0 (x k) || ltb 0 (s k)) (e .writes))) = not-or (some (λ k. ltb 0 (x k)) (e .reads)) (some (λ k. ltb 0 (x k) || ltb 0 (s k)) (e .writes)) in
+      cc (w, r, c, every-some (λ k. ltb 0 (x k) || ltb 0 (s k)) (e .writes), every-some (λ k. ltb 0 (x k)) (e .reads), and-comm (not (some (λ k. ltb 0 (x k)) (e .reads))) (not (some (λ k. ltb 0 (x k) || ltb 0 (s k)) (e .writes))))
+
+-- the counts over a queue show a clash exactly if the request conflicts with some entry of it
+counts-clash : (q : List Request) (e : Request) → clashes (cx q) (cs q) e ≡ conflictsAny q e
+counts-clash q e =
+    let r : some (λ k. ltb 0 (cx q k)) (e .reads) ≡ some (writtenIn q) (e .reads) = some-cong (e .reads) (λ k. count-above (λ (a : Request). member k (a .writes)) q) in
+    let w : some (λ k. ltb 0 (cx q k) || ltb 0 (cs q k)) (e .writes) ≡ some (λ k. writtenIn q k || readIn q k) (e .writes) = some-cong (e .writes) (λ k. simp (count-above (λ (a : Request). member k (a .writes)) q, count-above (λ (a : Request). member k (a .reads)) q)) in
+    cc (conflict-spread q e)
+
+-- Begin: figure 2's verdict, by the counters once the request has joined, is the conflict with the queue before it.
+pub figure2-conflicts : (q : List Request) (e : Request) → WellFormed (e .reads) (e .writes) → figure2 (cx (q ++ e ∷ [])) (cs (q ++ e ∷ [])) e ≡ conflictsAny q e
+figure2-conflicts q e f =
+    let own : Own e (cx q) (cs q) (cx (q ++ e ∷ [])) (cs (q ++ e ∷ [])) = record { writes = λ k. count-last (λ (a : Request). member k (a .writes)) q e; reads = λ k. count-last (λ (a : Request). member k (a .reads)) q e } in
+    own-figure2 own (f .apart) ∙ counts-clash q e
+
+-- Recheck: its condition is that no other entry, ahead or behind, conflicts.
+pub alone-conflicts : (q : List Request) (at : ℕ) → at < length q → WellFormed (getD q at nobody .reads) (getD q at nobody .writes) → alone (cx q) (cs q) (getD q at nobody) ≡ not (conflictsAny (withoutEntry at q) (getD q at nobody))
+alone-conflicts q at h f =
+    let e = getD q at nobody in
+    let rest = withoutEntry at q in
+    let own : Own e (cx rest) (cs rest) (cx q) (cs q) = record { writes = λ k. count-without (λ (a : Request). member k (a .writes)) q at nobody h; reads = λ k. count-without (λ (a : Request). member k (a .reads)) q at nobody h } in
+    own-alone own (f .apart) ∙ ap not (counts-clash rest e)
+
+-- ---- the maps
+maps-written : (m : Maps) (q : List Request) (r : ℕ) → mapsOver m q .written r ≡ (m .written r || writtenIn q r)
+unfolding mapsOver some
+maps-written m [] r = sym (or-false (m .written r))
+maps-written m (a ∷ q) r = maps-written (mapped m a) q r ∙ or-assoc (m .written r) (member r (a .writes)) (writtenIn q r)
+
+maps-read : (m : Maps) (q : List Request) (r : ℕ) → mapsOver m q .read r ≡ (m .read r || readIn q r)
+unfolding mapsOver some
+maps-read m [] r = sym (or-false (m .read r))
+maps-read m (a ∷ q) r = maps-read (mapped m a) q r ∙ or-assoc (m .read r) (member r (a .reads)) (readIn q r)
+
+-- "The map's verdict and the plain comparison must agree on every queue."
+pub maps-conflicts : (q : List Request) (e : Request) → clearBy (mapsOver noRecords q) e ≡ not (conflictsAny q e)
+unfolding clearBy
+maps-conflicts q e =
+    let m = mapsOver noRecords q in
+    let r : some (m .written) (e .reads) ≡ some (writtenIn q) (e .reads) = some-cong (e .reads) (maps-written noRecords q) in
+    let w : some (m .written) (e .writes) ≡ some (writtenIn q) (e .writes) = some-cong (e .writes) (maps-written noRecords q) in
+    let x : some (m .read) (e .writes) ≡ some (readIn q) (e .writes) = some-cong (e .writes) (maps-read noRecords q) in
+    let both : some (λ k. writtenIn q k || readIn q k) (e .writes) ≡ (some (writtenIn q) (e .writes) || some (readIn q) (e .writes)) = some-or (writtenIn q) (readIn q) (e .writes) in
+    simp (r, w, x, conflict-spread q e, both, not-or)

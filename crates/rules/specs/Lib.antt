@@ -1,0 +1,11 @@
+pub mod Lists
+pub mod Records
+pub mod Request
+pub mod Table
+pub mod Prices
+pub mod Refusals
+pub mod Counters
+pub mod Scan
+pub mod Calls
+pub mod Said
+pub mod Runs
