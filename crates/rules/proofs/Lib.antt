@@ -5,3 +5,6 @@ pub mod Verdicts
 pub mod Prices
 pub mod Meters
 pub mod Admission
+pub mod Steps
+pub mod Arrays
+pub mod Requests

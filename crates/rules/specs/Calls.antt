@@ -4,11 +4,10 @@ use mathlib.Core.Bool.{Bool, true, false}
 use mathlib.Core.List.{List, [], _∷_, _++_}
 use lib.Dec.{eqb}
 use lib.ListN.{getD, set, take, drop, replicate}
-use Rattle.rules.specs.declared.Mode.the-variants.{Blocked}
 use Rattle.rules.specs.declared.Answer.{Answer}
 use Rattle.rules.specs.declared.Answer.the-variants.{Ok, Done, Still, Nothing, Refused, Named}
 use Rattle.rules.specs.Lists.{if_then_else_}
-use Rattle.rules.specs.Request.{Request, nobody, size, promoted, admitted, delivered, isBlocked}
+use Rattle.rules.specs.Request.{Request, nobody, requested, size, promoted, admitted, delivered, isBlocked}
 use Rattle.rules.specs.Table.{Table, meterOf, withMeter, withQueue, numbered, granted, burn, fresh}
 use Rattle.rules.specs.Prices.{Prices, admission, searching, charge}
 use Rattle.rules.specs.Refusals.{firstOf, standsAt, entryOf, beginRows, finishRows, recheckRows, scanRows, deliverRows, grantRows, openRows}
@@ -54,15 +53,7 @@ withEntry t at e = withQueue t (set (t .queue) at e)
 
 -- Begin: "The request gets the tenant's next serial, from 1"
 abbrev pub asked : Table → ℕ → ℕ → List ℕ → List ℕ → Request
-asked t who awaited reads writes = record {
-  tenant = who;
-  serial = meterOf t who .serials + 1;
-  mode = Blocked;
-  awaited = awaited;
-  due = awaited;
-  reads = reads;
-  writes = writes;
-}
+asked t who awaited reads writes = requested who (meterOf t who .serials + 1) awaited reads writes
 
 -- "and joins the back"
 abbrev pub joined : Table → Request → Table

@@ -23,6 +23,18 @@ pub record Request : Type 0 where
 abbrev pub nobody : Request
 nobody = record { tenant = 0; serial = 0; mode = Free; awaited = 0; due = 0; reads = []; writes = [] }
 
+-- a request as it is asked for: all its answers are due, and it is Blocked until it is found clear
+abbrev pub requested : ℕ → ℕ → ℕ → List ℕ → List ℕ → Request
+requested who serial awaited reads writes = record {
+  tenant = who;
+  serial = serial;
+  mode = Blocked;
+  awaited = awaited;
+  due = awaited;
+  reads = reads;
+  writes = writes;
+}
+
 -- "n is an entry's number of records, reads and writes together"
 unfoldable pub size : Request → ℕ
 size e = length (e .reads) + length (e .writes)
@@ -84,7 +96,7 @@ promoted e = withMode e (if ltb 0 (e .awaited) then Waiting else Free)
 -- Begin: "Blocked exactly if it conflicts with some entry queued before it; otherwise it is Waiting if awaited is above 0,
 -- and Free if awaited is 0", which is the rule of a promotion
 unfoldable pub admitted : List Request → Request → Request
-admitted q e = if conflictsAny q e then withMode e Blocked else promoted e
+admitted q e = if conflictsAny q e then e else promoted e
 
 -- Deliver: "one remote answer fewer is due. A Waiting entry with none left due becomes Free. A Blocked entry stays Blocked."
 unfoldable pub delivered : Request → Request

@@ -1,0 +1,47 @@
+-- What a value's type alone says of it: the lengths of its arrays and the range of its bytes. `c .good` of a function's
+-- proof is such a fact of its parameters, and `.ok` of a call's result.
+use Prim.Native.Nat.{ℕ, zero, suc, _<_}
+use mathlib.Core.Path.{_≡_, refl, sym, ap, subst, _∙_}
+use mathlib.Core.List.{List, [], _∷_, map}
+use native.Mathlib.Nat.{not-suc-le-zero, le-of-suc-le-suc}
+use native.Mathlib.Omega.{arith}
+use lib.ListN.{length, getD}
+use mir.Syntax.{w8}
+use mir.Val.{Val}
+use denote.Plain.{UInt}
+use denote.Array.{Array, each}
+use denote.Shadow.{shadow}
+use denote.Laws.{Is}
+use Rattle.entry.specs.declared.Entry.{Entry}
+use Rattle.entry.specs.Entry.{blank}
+use Rattle.entry.proofs.Entry as entry
+
+-- an array of n bytes
+pub record Bytes (n : ℕ) (xs : List ℕ) : Type 0 where
+  pub size : length xs ≡ n
+  pub below : (k : ℕ) → getD xs k 0 < 256
+
+each-below : (xs : List ℕ) (us : List Val) → shadow (each ℕ (UInt w8 .own) xs us) → (k : ℕ) → getD xs k 0 < 256
+each-below [] us p k = omega arith
+each-below (x ∷ xs) [] p k = absurd p
+each-below (x ∷ xs) (u ∷ us) p zero = p .0 .1
+each-below (x ∷ xs) (u ∷ us) p (suc k) = each-below xs us (p .1) k
+
+pub bytes : (n : ℕ) (xs : List ℕ) (vs : List Val) → Is (Array (UInt w8) n) xs vs → Bytes n xs
+bytes n xs vs p = record { size = p .1 .0 .1; below = each-below xs (p .0) (p .1 .1) }
+
+map-id : (xs : List ℕ) → map (λ (x : ℕ). x) xs ≡ xs
+map-id [] = refl
+map-id (x ∷ xs) = ap (λ (t : List ℕ). x ∷ t) (map-id xs)
+
+-- the same as a field of a struct, whose list is mapped
+pub field-bytes : (n : ℕ) (xs : List ℕ) (vs : List Val) → Is (Array (UInt w8) n) (map (λ (x : ℕ). x) xs) vs → Bytes n xs
+field-bytes n xs vs p = subst (Bytes n) (map-id xs) (bytes n (map (λ (x : ℕ). x) xs) vs p)
+
+-- an entry's two lists of records
+pub record Lists (e : Entry) : Type 0 where
+  pub reads : Bytes 8 (e .reads)
+  pub writes : Bytes 8 (e .writes)
+
+pub entry-lists : (e : Entry) (vs : List Val) → Is entry.the-row e vs → Lists e
+entry-lists e vs p = record { reads = field-bytes 8 (e .reads) _ (p .1 .1 .1 .1 .1 .1 .1 .1 .1 .0); writes = field-bytes 8 (e .writes) _ (p .1 .1 .1 .1 .1 .1 .1 .1 .1 .1 .0) }

@@ -1,0 +1,274 @@
+// One request as a slot of the queue holds it; tests of lent lists; when two entries conflict.
+ghost use mathlib.Core.Path.{_≡_};
+ghost use mathlib.Core.Bool.{_&&_};
+ghost use Prim.Native.Nat.{_≤_, _<_, min};
+ghost use lib.Dec.{eqb, ltb};
+ghost use lib.ListN.{length};
+ghost use Rattle.rules.specs.declared.Mode.the-variants.{Free};
+ghost use Rattle.rules.specs.Lists.{if_then_else_};
+ghost use Rattle.rules.specs.Records.{member, rising, meets};
+ghost use Rattle.rules.specs.Request.{requested, size as sizeOf, conflict, isFree, isWaiting, isBlocked, withMode, withDue, promoted as promotedOf, delivered as deliveredOf};
+ghost use Rattle.entry.specs.Entry.{noEntry, request, Tidy, Stands, Kept};
+ghost use Rattle.entry.specs.Touch.{touchAt};
+use rules::Mode;
+
+pub struct Entry {
+    pub tenant: u8,
+    pub serial: u16,
+    pub mode: Mode,
+    pub awaited: u8,
+    pub due: u8,
+    pub nr: u8,
+    pub nw: u8,
+    pub reads: [u8; 8],
+    pub writes: [u8; 8],
+}
+
+// The entry of an unused slot.
+pub fn empty() -> Entry
+    ensures { λ r. ⌜ r ≡ noEntry ⌝ }
+{
+    Entry {
+        tenant: 0,
+        serial: 0,
+        mode: Mode::Free,
+        awaited: 0,
+        due: 0,
+        nr: 0,
+        nw: 0,
+        reads: [0u8; 8],
+        writes: [0u8; 8],
+    }
+}
+
+// Whether a list has more than 8 records.
+pub fn too_many(list: &[u8]) -> bool
+    ensures { λ r. ⌜ r ≡ ltb 8 (length (now (list .entry))) ⌝ }
+{
+    8 < list.len()
+}
+
+// Whether a list is strictly rising.
+pub fn rises(list: &[u8]) -> bool
+    ensures { λ r. ⌜ r ≡ rising (now (list .entry)) ⌝ }
+{
+    let n = list.len();
+    let mut i: usize = 1;
+    while i < n {
+        if list[i] <= list[i - 1] {
+            return false;
+        }
+        i += 1;
+    }
+    true
+}
+
+// Whether a list has a record.
+pub fn holds(list: &[u8], r: u8) -> bool
+    ensures { λ b. ⌜ b ≡ member r (now (list .entry)) ⌝ }
+{
+    let n = list.len();
+    let mut i: usize = 0;
+    while i < n {
+        if list[i] == r {
+            return true;
+        }
+        i += 1;
+    }
+    false
+}
+
+// Whether a record stands in both lists.
+pub fn meet(xs: &[u8], ys: &[u8]) -> bool
+    ensures { λ r. ⌜ r ≡ meets (now (xs .entry)) (now (ys .entry)) ⌝ }
+{
+    let n = xs.len();
+    let mut i: usize = 0;
+    while i < n {
+        if holds(ys, xs[i]) {
+            return true;
+        }
+        i += 1;
+    }
+    false
+}
+
+// The records of a lent list at the front of an array of 8, the rest zero.
+pub fn kept(list: &[u8]) -> [u8; 8]
+    requires { ⌜ length (now list) ≤ 8 ⌝ }
+    ensures { λ r. ⌜ Kept (now (list .entry)) r ⌝ }
+{
+    let n = list.len();
+    let mut out = [0u8; 8];
+    let mut i: usize = 0;
+    while i < n {
+        out[i] = list[i];
+        i += 1;
+    }
+    out
+}
+
+// An entry made from lent lists, as it is asked for.
+pub fn made(tenant: u8, serial: u16, awaited: u8, reads: &[u8], writes: &[u8]) -> Entry
+    requires { ⌜ length (now reads) ≤ 8 ⌝ }
+    requires { ⌜ length (now writes) ≤ 8 ⌝ }
+    ensures { λ r. ⌜ Stands (requested tenant serial awaited (now (reads .entry)) (now (writes .entry))) r ⌝ }
+{
+    let nr = reads.len() as u8;
+    let nw = writes.len() as u8;
+    let rs = kept(reads);
+    let ws = kept(writes);
+    Entry {
+        tenant: tenant,
+        serial: serial,
+        mode: Mode::Blocked,
+        awaited: awaited,
+        due: awaited,
+        nr: nr,
+        nw: nw,
+        reads: rs,
+        writes: ws,
+    }
+}
+
+pub fn is_free(mode: Mode) -> bool
+    ensures { λ r. ⌜ r ≡ isFree mode ⌝ }
+{
+    match mode {
+        Mode::Free => true,
+        Mode::Waiting => false,
+        Mode::Blocked => false,
+    }
+}
+
+pub fn is_blocked(mode: Mode) -> bool
+    ensures { λ r. ⌜ r ≡ isBlocked mode ⌝ }
+{
+    match mode {
+        Mode::Free => false,
+        Mode::Waiting => false,
+        Mode::Blocked => true,
+    }
+}
+
+// The entry with another state and another number of answers due.
+fn changed(e: Entry, mode: Mode, due: u8) -> Entry
+    requires { ⌜ Tidy e ⌝ }
+    ensures { λ r. ⌜ Stands (withMode (withDue (request e) due) mode) r ⌝ }
+{
+    let reads = e.reads;
+    let writes = e.writes;
+    Entry {
+        tenant: e.tenant,
+        serial: e.serial,
+        mode: mode,
+        awaited: e.awaited,
+        due: due,
+        nr: e.nr,
+        nw: e.nw,
+        reads: reads,
+        writes: writes,
+    }
+}
+
+// The entry once it is promoted.
+pub fn promoted(e: Entry) -> Entry
+    requires { ⌜ Tidy e ⌝ }
+    ensures { λ r. ⌜ Stands (promotedOf (request e)) r ⌝ }
+{
+    if 0 < e.awaited {
+        changed(e, Mode::Waiting, e.due)
+    } else {
+        changed(e, Mode::Free, e.due)
+    }
+}
+
+// The state of an entry that has so many answers due after one has come.
+fn answered(mode: Mode, left: u8) -> Mode
+    ensures { λ r. ⌜ r ≡ (if isWaiting mode && eqb left 0 then Free else mode) ⌝ }
+{
+    match mode {
+        Mode::Free => Mode::Free,
+        Mode::Waiting => { if left == 0 { Mode::Free } else { Mode::Waiting } }
+        Mode::Blocked => Mode::Blocked,
+    }
+}
+
+// The entry once a remote answer has come.
+pub fn delivered(e: Entry) -> Entry
+    requires { ⌜ Tidy e ⌝ }
+    requires { ⌜ 0 < e .due ⌝ }
+    ensures { λ r. ⌜ Stands (deliveredOf (request e)) r ⌝ }
+{
+    let left = e.due - 1;
+    let was = e.mode;
+    let mode = answered(was, left);
+    changed(e, mode, left)
+}
+
+// A count of records, at most 8, which every entry's is: so what reads an entry asks nothing of it.
+pub fn few(n: u8) -> usize
+    ensures { λ r. ⌜ r ≡ min n 8 ⌝ }
+{
+    if n < 8 { n as usize } else { 8 }
+}
+
+// The number of records, reads and writes together.
+pub fn size(e: Entry) -> usize
+    ensures { λ r. ⌜ r ≡ sizeOf (request e) ⌝ }
+    ensures { λ r. ⌜ r ≤ 16 ⌝ }
+{
+    few(e.nr) + few(e.nw)
+}
+
+// What an entry does to a record.
+pub struct Touch {
+    pub which: u8,
+    pub writes: bool,
+}
+
+// The i-th record of an entry: those that it reads come first.
+pub fn touch_at(e: Entry, i: usize) -> Touch
+    requires { ⌜ i < sizeOf (request e) ⌝ }
+    ensures { λ r. ⌜ r ≡ touchAt (request e) i ⌝ }
+{
+    let n = few(e.nr);
+    if i < n {
+        return Touch {
+            which: e.reads[i],
+            writes: false,
+        };
+    }
+    let k = i - n;
+    Touch {
+        which: e.writes[k],
+        writes: true,
+    }
+}
+
+// Whether two entries conflict: every record of one beside every record of the other, left at the first that both have and
+// one of them writes.
+pub fn pair_conflict(a: Entry, b: Entry) -> bool
+    ensures { λ r. ⌜ r ≡ conflict (request a) (request b) ⌝ }
+{
+    let n = size(a);
+    let m = size(b);
+    let mut found = false;
+    let mut i: usize = 0;
+    'pairs: while i < n {
+        let x = touch_at(a, i);
+        let mut j: usize = 0;
+        while j < m {
+            let y = touch_at(b, j);
+            if x.which == y.which {
+                if x.writes || y.writes {
+                    found = true;
+                    break 'pairs;
+                }
+            }
+            j += 1;
+        }
+        i += 1;
+    }
+    found
+}
