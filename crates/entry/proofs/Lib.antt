@@ -1,2 +1,4 @@
 pub mod Typed
 pub mod Touches
+pub mod Ahead
+pub mod Machine

@@ -1,19 +1,20 @@
 -- What a value's type alone says of it: the lengths of its arrays and the range of its bytes. `c .good` of a function's
 -- proof is such a fact of its parameters, and `.ok` of a call's result.
-use Prim.Native.Nat.{ℕ, zero, suc, _<_}
+use Prim.Native.Nat.{ℕ, zero, suc, _≤_, _<_, min}
 use mathlib.Core.Path.{_≡_, refl, sym, ap, subst, _∙_}
 use mathlib.Core.List.{List, [], _∷_, map}
-use native.Mathlib.Nat.{not-suc-le-zero, le-of-suc-le-suc}
 use native.Mathlib.Omega.{arith}
-use lib.ListN.{length, getD}
+use mathlib.Core.Logic.{⊎-elim}
+use lib.ListN.{length, getD, take}
+use lib.Seq.{take-all}
 use mir.Syntax.{w8}
 use mir.Val.{Val}
 use denote.Plain.{UInt}
 use denote.Array.{Array, each}
 use denote.Shadow.{shadow}
 use denote.Laws.{Is}
+use Rattle.rules.proofs.Tests.{lt-or-ge}
 use Rattle.entry.specs.declared.Entry.{Entry}
-use Rattle.entry.specs.Entry.{blank}
 use Rattle.entry.proofs.Entry as entry
 
 -- an array of n bytes
@@ -45,3 +46,13 @@ pub record Lists (e : Entry) : Type 0 where
 
 pub entry-lists : (e : Entry) (vs : List Val) → Is entry.the-row e vs → Lists e
 entry-lists e vs p = record { reads = field-bytes 8 (e .reads) _ (p .1 .1 .1 .1 .1 .1 .1 .1 .1 .0); writes = field-bytes 8 (e .writes) _ (p .1 .1 .1 .1 .1 .1 .1 .1 .1 .1 .0) }
+
+-- the count clamped to 8 picks the same records
+pub few-take : (n few : ℕ) {xs : List ℕ} → Bytes 8 xs → few ≡ min n 8 → take few xs ≡ take n xs
+few-take n few {xs} b e = ⊎-elim
+    (λ (below : n < 8). let same : few ≡ n = omega arith in ap (λ (m : ℕ). take m xs) same)
+    (λ (past : 8 ≤ n).
+    let whole : length xs ≤ few = omega (arith, b .size) in
+    let long : length xs ≤ n = omega (arith, b .size) in
+    take-all few xs whole ∙ sym (take-all n xs long))
+    (lt-or-ge n 8)

@@ -1,13 +1,14 @@
 // One request as a slot of the queue holds it; tests of lent lists; when two entries conflict.
 ghost use mathlib.Core.Path.{_≡_};
 ghost use mathlib.Core.Bool.{_&&_};
+ghost use mathlib.Core.List.{map};
 ghost use Prim.Native.Nat.{_≤_, _<_, min};
 ghost use lib.Dec.{eqb, ltb};
-ghost use lib.ListN.{length};
+ghost use lib.ListN.{length, take};
 ghost use Rattle.rules.specs.declared.Mode.the-variants.{Free};
 ghost use Rattle.rules.specs.Lists.{if_then_else_};
 ghost use Rattle.rules.specs.Records.{member, rising, meets};
-ghost use Rattle.rules.specs.Request.{requested, size as sizeOf, conflict, isFree, isWaiting, isBlocked, withMode, withDue, promoted as promotedOf, delivered as deliveredOf};
+ghost use Rattle.rules.specs.Request.{requested, size as sizeOf, conflict, conflictsAny, isFree, isWaiting, isBlocked, withMode, withDue, promoted as promotedOf, delivered as deliveredOf};
 ghost use Rattle.entry.specs.Entry.{noEntry, request, Tidy, Stands, Kept};
 ghost use Rattle.entry.specs.Touch.{touchAt};
 use rules::Mode;
@@ -271,4 +272,26 @@ pub fn pair_conflict(a: Entry, b: Entry) -> bool
         i += 1;
     }
     found
+}
+
+// Whether an entry conflicts with one of those that are lent: the pair test, left at the first clash.
+pub fn clash_ahead(es: &[Entry], e: Entry) -> bool
+    ensures { λ r. ⌜ r ≡ conflictsAny (map request (now (es .entry))) (request e) ⌝ }
+{
+    let mut i = 0;
+    while i < es.len() {
+        if pair_conflict(es[i], e) {
+            return true;
+        }
+        i += 1;
+    }
+    false
+}
+
+// The entries ahead of a place are lent to the comparison.
+pub fn clash_before(entries: [Entry; 64], at: usize, e: Entry) -> bool
+    requires { ⌜ at ≤ 64 ⌝ }
+    ensures { λ r. ⌜ r ≡ conflictsAny (map request (take at entries)) (request e) ⌝ }
+{
+    clash_ahead(&entries[..at], e)
 }

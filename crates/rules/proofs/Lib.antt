@@ -8,3 +8,4 @@ pub mod Admission
 pub mod Steps
 pub mod Arrays
 pub mod Requests
+pub mod Slots

@@ -12,7 +12,7 @@ use lib.Seq.{split-at}
 use borrow.Author.Tests.{eqb-true, eq-eqb, lt-ltb, le-ltb}
 use Rattle.rules.specs.Lists.{if_then_else_, some, every, countIf, total, before}
 use Rattle.rules.specs.Records.{member, meets}
-use Rattle.rules.proofs.Tests.{or-assoc, or-swap, either, neither, eqb-sym, one, one-le, not-or, or-false, or-true}
+use Rattle.rules.proofs.Tests.{or-assoc, or-swap, and-swap, either, neither, eqb-sym, one, one-le, not-or, or-false, or-true}
 
 module _ {A : Type 0} where
   pub some-append : (f : A → Bool) (xs ys : List A) → some f (xs ++ ys) ≡ (some f xs || some f ys)
@@ -44,6 +44,11 @@ module _ {A : Type 0} where
   unfolding every
   every-cong [] h = refl
   every-cong {f} {g} (x ∷ xs) h = simp (h, every-cong {f = f} {g = g} xs h)
+
+  pub every-and : (f g : A → Bool) (xs : List A) → every (λ (x : A). f x && g x) xs ≡ (every f xs && every g xs)
+  unfolding every
+  every-and f g [] = refl
+  every-and f g (x ∷ xs) = ap (λ (t : Bool). (f x && g x) && t) (every-and f g xs) ∙ and-swap (f x) (g x) (every f xs) (every g xs)
 
   -- ---- how many
   pub count-le : (f : A → Bool) (xs : List A) → countIf f xs ≤ length xs

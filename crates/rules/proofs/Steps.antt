@@ -8,7 +8,7 @@ use native.Mathlib.Omega.{arith}
 use lib.Dec.{eqb, ltb}
 use lib.ListN.{length, getD, take, drop, length-take, drop-of-length-le}
 use lib.Seq.{drop-cons, getD-take, take-length}
-use Rattle.rules.specs.Lists.{some, countIf}
+use Rattle.rules.specs.Lists.{some, every}
 use Rattle.rules.specs.Records.{member, meets, rising, risingPast}
 
 module _ {A : Type 0} where
@@ -42,6 +42,14 @@ module _ {A : Type 0} where
   pub some-part-end : (f : A → Bool) (l : List A) (n i : ℕ) → n ≤ i → some f (drop i (take n l)) ≡ false
   unfolding some
   some-part-end f l n i h = ap (some f) (part-end l n i h)
+
+  pub every-part-step : (f : A → Bool) (l : List A) (n i : ℕ) (d : A) → i < n → n ≤ length l → every f (drop i (take n l)) ≡ (f (getD l i d) && every f (drop (i + 1) (take n l)))
+  unfolding every
+  every-part-step f l n i d h le = ap (every f) (part-step l n i d h le)
+
+  pub every-part-end : (f : A → Bool) (l : List A) (n i : ℕ) → n ≤ i → every f (drop i (take n l)) ≡ true
+  unfolding every
+  every-part-end f l n i h = ap (every f) (part-end l n i h)
 
 -- ---- records
 pub member-step : (r : ℕ) (l : List ℕ) (i : ℕ) → i < length l → member r (drop i l) ≡ (eqb (getD l i 0) r || member r (drop (i + 1) l))

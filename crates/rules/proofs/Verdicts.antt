@@ -13,9 +13,21 @@ use Rattle.rules.specs.Counters.{cx, cs, figure2, alone}
 use Rattle.rules.specs.Calls.{withoutEntry}
 use Rattle.rules.specs.Scan.{Maps, noRecords, mapped, mapsOver, clearBy}
 use Rattle.rules.proofs.Tests.{one, or-assoc, or-false, not-or, above-one, zero-above, one-own, and-comm}
-use Rattle.rules.proofs.Lists.{some-cong, some-in, every-in, every-some, some-or, count-above, count-last, count-without, apart-at, meets-sym}
+use Rattle.rules.proofs.Lists.{some-cong, some-in, every-in, every-some, every-and, some-or, count-above, count-last, count-without, apart-at, meets-sym}
 use Rattle.rules.proofs.Conflict.{writtenIn, readIn, conflict-spread}
 
+-- ---- the verdicts by one comparison of a list at a time
+pub figure2-split : (x s : ℕ → ℕ) (e : Request) → figure2 x s e ≡ (some (λ k. ltb 0 (x k)) (e .reads) || (some (λ k. ltb 1 (x k)) (e .writes) || some (λ k. ltb 0 (s k)) (e .writes)))
+unfolding figure2
+figure2-split x s e =
+    ap (λ (t : Bool). some (λ k. ltb 0 (x k)) (e .reads) || t) (some-or (λ k. ltb 1 (x k)) (λ k. ltb 0 (s k)) (e .writes))
+
+pub alone-split : (x s : ℕ → ℕ) (e : Request) → alone x s e ≡ ((every (λ k. eqb (x k) 1) (e .writes) && every (λ k. eqb (s k) 0) (e .writes)) && every (λ k. eqb (x k) 0) (e .reads))
+unfolding alone
+alone-split x s e =
+    ap (λ (t : Bool). t && every (λ k. eqb (x k) 0) (e .reads)) (every-and (λ k. eqb (x k) 1) (λ k. eqb (s k) 0) (e .writes))
+
+-- ---- the verdicts by the counts
 -- counters that are those of the other entries and a request's own count
 pub record Own (e : Request) (x s x' s' : ℕ → ℕ) : Type 0 where
   pub writes : (k : ℕ) → x' k ≡ x k + one (member k (e .writes))

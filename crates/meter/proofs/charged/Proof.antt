@@ -43,7 +43,7 @@ use denote.Exit.{yes}
 use Rattle.meter.specs.declared.Meter.{Meter}
 use Rattle.rules.specs.Table.{spent}
 use Rattle.meter.specs.View.{meterView}
-use Rattle.meter.proofs.Slots.{packs, unpacks}
+use Rattle.rules.proofs.Slots.{packs, unpacks}
 use Rattle.meter.proofs.Meter as T
 use Rattle.meter.proofs.Meter.Laws as T′
 use Rattle.meter.proofs.charge as charge
