@@ -1,0 +1,18 @@
+//! Event files: made from a seed, and turned to readable text and back.
+//!
+//! - `encode`: one record to bytes.
+//! - `text`: readable text to bytes; `back`: bytes to readable text.
+//! - `kinds`: the kinds of generated file. Each is made with `random` (the
+//!   numbers) and `sheet` (the file so far with the state it leads to).
+
+pub mod back;
+mod boundary;
+mod damaged;
+pub mod encode;
+pub mod kinds;
+mod load;
+pub mod random;
+mod refusals;
+mod sheet;
+pub mod text;
+mod worst;

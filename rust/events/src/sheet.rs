@@ -1,0 +1,168 @@
+//! An event file in the making, with the state that its calls lead to. The
+//! state steers: a generator asks it which entries there are, so that its
+//! calls hit live ones.
+
+use crate::encode::{encode, encode_parts};
+use crate::random::Random;
+use second::reader::Event;
+use second::table::TENANTS;
+use second::{apply, Entry, Outcome, State, Table};
+
+pub type Shares = [u8; TENANTS];
+
+/// Tenant and serial of an entry.
+pub type Name = (u8, u16);
+
+pub struct Sheet {
+    bytes: Vec<u8>,
+    pub table: Table,
+}
+
+// The calls. Each adds a record and makes the call on the steering state.
+impl Sheet {
+    pub fn open(shares: Shares) -> Sheet {
+        let mut sheet = Sheet {
+            bytes: Vec::new(),
+            table: Table::default(),
+        };
+        sheet.call(Event::Open { shares: &shares });
+        sheet
+    }
+
+    fn call(&mut self, event: Event<'_>) -> Outcome {
+        encode(event, &mut self.bytes).expect("a generated record fits the format");
+        apply(&mut self.table, event)
+    }
+
+    pub fn grant(&mut self, tenant: u8, amount: u32) -> Outcome {
+        self.call(Event::Grant { tenant, amount })
+    }
+
+    pub fn begin(&mut self, tenant: u8, awaited: u8, lists: &Lists) -> Outcome {
+        self.call(Event::Begin {
+            tenant,
+            awaited,
+            reads: &lists.reads,
+            writes: &lists.writes,
+        })
+    }
+
+    pub fn finish(&mut self, (tenant, serial): Name) -> Outcome {
+        self.call(Event::Finish { tenant, serial })
+    }
+
+    pub fn recheck(&mut self, (tenant, serial): Name) -> Outcome {
+        self.call(Event::Recheck { tenant, serial })
+    }
+
+    pub fn scan(&mut self, tenant: u8) -> Outcome {
+        self.call(Event::Scan { tenant })
+    }
+
+    pub fn pick(&mut self) -> Outcome {
+        self.call(Event::Pick)
+    }
+
+    pub fn deliver(&mut self, (tenant, serial): Name) -> Outcome {
+        self.call(Event::Deliver { tenant, serial })
+    }
+}
+
+// Bytes that are no call of the steering state.
+impl Sheet {
+    /// A record whose tag and body need not suit each other. It must come
+    /// last: the steering state does not follow it.
+    pub fn into_bytes_with(mut self, tag: u8, body: &[u8]) -> Vec<u8> {
+        encode_parts(tag, body, &mut self.bytes).expect("a generated record fits the format");
+        self.bytes
+    }
+
+    pub fn into_bytes(self) -> Vec<u8> {
+        self.bytes
+    }
+
+    pub fn len(&self) -> usize {
+        self.bytes.len()
+    }
+}
+
+// What the state says.
+impl Sheet {
+    pub fn fuel(&self, tenant: u8) -> u32 {
+        self.table.fuel(tenant).unwrap_or(0)
+    }
+
+    /// The names of the entries that `wanted` holds for, front first.
+    pub fn names(&self, wanted: impl Fn(&Entry) -> bool) -> Vec<Name> {
+        let entries = self.table.queue.iter().filter(|entry| wanted(entry));
+        entries.map(|entry| (entry.tenant, entry.serial)).collect()
+    }
+
+    pub fn names_in(&self, state: State) -> Vec<Name> {
+        self.names(|entry| entry.state == state)
+    }
+
+    pub fn has_place(&self, tenant: u8) -> bool {
+        let held = self.names(|entry| entry.tenant == tenant).len();
+        held < usize::from(self.table.meters[usize::from(tenant) - 1].share)
+    }
+}
+
+/// The record lists of a Begin.
+#[derive(Clone, Default)]
+pub struct Lists {
+    pub reads: Vec<u8>,
+    pub writes: Vec<u8>,
+}
+
+impl Lists {
+    pub fn reading(reads: &[u8]) -> Lists {
+        Lists {
+            reads: reads.to_vec(),
+            writes: Vec::new(),
+        }
+    }
+
+    pub fn writing(writes: &[u8]) -> Lists {
+        Lists {
+            reads: Vec::new(),
+            writes: writes.to_vec(),
+        }
+    }
+
+    /// Lists that keep refusals 3 to 5: that many reads and writes, no record
+    /// twice, out of `pool` as far as it reaches.
+    pub fn drawn(random: &mut Random, pool: &[u8], reads: usize, writes: usize) -> Lists {
+        let mut pool = pool.to_vec();
+        random.shuffle(&mut pool);
+        let (reads, rest) = pool.split_at(reads.min(pool.len()));
+        let mut lists = Lists {
+            reads: reads.to_vec(),
+            writes: rest[..writes.min(rest.len())].to_vec(),
+        };
+        lists.sort();
+        lists
+    }
+
+    pub fn sort(&mut self) {
+        self.reads.sort_unstable();
+        self.writes.sort_unstable();
+    }
+}
+
+/// That many places dealt out to the first `tenants` tenants, at least one
+/// each.
+pub fn deal_shares(random: &mut Random, tenants: u8, places: usize) -> Shares {
+    let mut shares = [0; TENANTS];
+    let dealt = &mut shares[..usize::from(tenants)];
+    dealt.fill(1);
+    for _ in dealt.len()..places {
+        dealt[random.below(dealt.len())] += 1;
+    }
+    shares
+}
+
+/// A number of places that gives each of `tenants` tenants one or more.
+pub fn any_places(random: &mut Random, tenants: u8) -> usize {
+    random.between(usize::from(tenants), 64)
+}

@@ -1,0 +1,229 @@
+//! Readable text to event bytes.
+//!
+//! One record a line; `#` starts a comment; blank lines are fine:
+//!
+//! ```text
+//! open 2 2                  # shares of tenants 1, 2, ...; the rest 0
+//! grant 1 40
+//! begin 1 awaited 1 reads 3 5 writes 10
+//! finish 1 1
+//! recheck 2 1
+//! scan 2
+//! pick
+//! deliver 1 1
+//! raw 05 00 ff              # bytes that are no well-formed record
+//! ```
+//!
+//! A number may be any that its field of the record can hold: a file with
+//! tenant 200 is a file worth writing, for its refusal.
+
+use crate::encode::encode;
+use second::reader::Event;
+use second::table::TENANTS;
+use std::fmt;
+
+/// The words that a line may start with.
+pub const WORDS: &str = "open, grant, begin, finish, recheck, scan, pick, deliver, raw";
+
+const BEGIN_PARTS: [&str; 3] = ["awaited", "reads", "writes"];
+
+#[derive(Clone, Debug, PartialEq, Eq)]
+pub struct WrongLine {
+    pub line: usize,
+    pub what: String,
+}
+
+impl fmt::Display for WrongLine {
+    fn fmt(&self, out: &mut fmt::Formatter<'_>) -> fmt::Result {
+        write!(out, "line {}: {}", self.line, self.what)
+    }
+}
+
+/// The event bytes of a text, or its first wrong line.
+pub fn to_bytes(text: &[u8]) -> Result<Vec<u8>, WrongLine> {
+    let mut out = Vec::new();
+    for (before, line) in text.split(|&byte| byte == b'\n').enumerate() {
+        add_line(line, &mut out).map_err(|what| WrongLine {
+            line: before + 1,
+            what,
+        })?;
+    }
+    Ok(out)
+}
+
+fn add_line(line: &[u8], out: &mut Vec<u8>) -> Result<(), String> {
+    let line = std::str::from_utf8(line).map_err(|error| {
+        let at = error.valid_up_to();
+        format!("byte {} (hex {:02x}) is not UTF-8 text", at + 1, line[at])
+    })?;
+    let code = line.split('#').next().unwrap_or("");
+    let mut words = Words::of(code);
+    match words.next() {
+        Some(word) => add_record(word, words, out),
+        None => Ok(()),
+    }
+}
+
+fn add_record(word: &str, mut words: Words<'_>, out: &mut Vec<u8>) -> Result<(), String> {
+    let event = match word {
+        "open" => return add_open(words, out),
+        "begin" => return add_begin(words, out),
+        "raw" => return add_raw(words, out),
+        "grant" => Event::Grant {
+            tenant: words.byte("tenant")?,
+            amount: words.number("amount", u32::MAX)?,
+        },
+        "finish" => Event::Finish {
+            tenant: words.byte("tenant")?,
+            serial: words.serial()?,
+        },
+        "recheck" => Event::Recheck {
+            tenant: words.byte("tenant")?,
+            serial: words.serial()?,
+        },
+        "scan" => Event::Scan {
+            tenant: words.byte("tenant")?,
+        },
+        "pick" => Event::Pick,
+        "deliver" => Event::Deliver {
+            tenant: words.byte("tenant")?,
+            serial: words.serial()?,
+        },
+        _ => return Err(format!("unknown word \"{}\" (known: {})", word, WORDS)),
+    };
+    words.end()?;
+    encode(event, out)
+}
+
+fn add_open(mut words: Words<'_>, out: &mut Vec<u8>) -> Result<(), String> {
+    let mut shares = words.bytes("share", &[])?;
+    if shares.len() > TENANTS {
+        return Err(format!(
+            "{} shares are too many (at most {})",
+            shares.len(),
+            TENANTS
+        ));
+    }
+    shares.resize(TENANTS, 0);
+    encode(Event::Open { shares: &shares }, out)
+}
+
+/// The parts may come in any order, each at most once.
+fn add_begin(mut words: Words<'_>, out: &mut Vec<u8>) -> Result<(), String> {
+    let tenant = words.byte("tenant")?;
+    let (mut awaited, mut reads, mut writes) = (None, None, None);
+    while let Some(part) = words.next() {
+        match part {
+            "awaited" => set_once(&mut awaited, part, words.byte("awaited")?)?,
+            "reads" => set_once(&mut reads, part, words.records(part)?)?,
+            "writes" => set_once(&mut writes, part, words.records(part)?)?,
+            _ => return Err(format!("\"{}\" is not awaited, reads or writes", part)),
+        }
+    }
+    let event = Event::Begin {
+        tenant,
+        awaited: awaited.unwrap_or(0),
+        reads: &reads.unwrap_or_default(),
+        writes: &writes.unwrap_or_default(),
+    };
+    encode(event, out)
+}
+
+fn set_once<T>(slot: &mut Option<T>, part: &str, value: T) -> Result<(), String> {
+    match slot.replace(value) {
+        None => Ok(()),
+        Some(_) => Err(format!("{} is given twice", part)),
+    }
+}
+
+fn add_raw(words: Words<'_>, out: &mut Vec<u8>) -> Result<(), String> {
+    let start = out.len();
+    for word in words {
+        out.push(hex_byte(word)?);
+    }
+    if out.len() == start {
+        return Err(String::from("a byte is missing"));
+    }
+    Ok(())
+}
+
+fn hex_byte(word: &str) -> Result<u8, String> {
+    let two_digits = word.len() == 2 && word.bytes().all(|c| c.is_ascii_hexdigit());
+    match u8::from_str_radix(word, 16) {
+        Ok(byte) if two_digits => Ok(byte),
+        _ => Err(format!("\"{}\" is not a byte of two hex digits", word)),
+    }
+}
+
+/// The words of a line, taken one after the other.
+struct Words<'a> {
+    words: std::iter::Peekable<std::str::SplitWhitespace<'a>>,
+}
+
+impl<'a> Iterator for Words<'a> {
+    type Item = &'a str;
+
+    fn next(&mut self) -> Option<&'a str> {
+        self.words.next()
+    }
+}
+
+impl<'a> Words<'a> {
+    fn of(line: &'a str) -> Words<'a> {
+        Words {
+            words: line.split_whitespace().peekable(),
+        }
+    }
+
+    /// The next word as a number from 0 to `most`.
+    fn number(&mut self, field: &str, most: u32) -> Result<u32, String> {
+        let word = match self.next() {
+            Some(word) => word,
+            None => return Err(format!("{} is missing", field)),
+        };
+        if !word.bytes().all(|c| c.is_ascii_digit()) {
+            return Err(format!("{}: \"{}\" is not a number", field, word));
+        }
+        match word.parse::<u32>() {
+            Ok(number) if number <= most => Ok(number),
+            _ => Err(format!("{}: {} is not in 0 to {}", field, word, most)),
+        }
+    }
+
+    fn byte(&mut self, field: &str) -> Result<u8, String> {
+        Ok(self.number(field, u32::from(u8::MAX))? as u8)
+    }
+
+    fn serial(&mut self) -> Result<u16, String> {
+        Ok(self.number("serial", u32::from(u16::MAX))? as u16)
+    }
+
+    /// The words up to the end of the line, or up to one of `stops`, as numbers
+    /// from 0 to 255.
+    fn bytes(&mut self, field: &str, stops: &[&str]) -> Result<Vec<u8>, String> {
+        let mut bytes = Vec::new();
+        while let Some(word) = self.words.peek() {
+            if stops.contains(word) {
+                break;
+            }
+            bytes.push(self.byte(field)?);
+        }
+        Ok(bytes)
+    }
+
+    /// A list of records; an empty list is written by leaving its part out.
+    fn records(&mut self, part: &str) -> Result<Vec<u8>, String> {
+        let records = self.bytes("record", &BEGIN_PARTS)?;
+        if records.is_empty() {
+            return Err(format!("a record is missing after {}", part));
+        }
+        Ok(records)
+    }
+
+    fn end(&mut self) -> Result<(), String> {
+        match self.next() {
+            Some(word) => Err(format!("\"{}\" is one word too many", word)),
+            None => Ok(()),
+        }
+    }
+}

@@ -1,0 +1,152 @@
+//! The generated files reach every answer, refusal and change of state that
+//! document 01 knows and a file can reach, and no other.
+
+mod common;
+
+use common::{batch, walk, Step};
+use second::{Event, State};
+use std::collections::BTreeSet;
+
+const SEEDS: u64 = 150;
+
+/// By call, its answers; the refusals in the order of document 01. Refusal 8
+/// needs more Begins than a file holds.
+const CALLS: [(&str, &str); 8] = [
+    ("open", "ok refused:14"),
+    ("grant", "ok refused:1 refused:13"),
+    (
+        "begin",
+        "free waiting blocked refused:1 refused:2 refused:3 refused:4 \
+         refused:5 refused:6 refused:7 refused:9",
+    ),
+    ("finish", "done refused:1 refused:2 refused:10 refused:11"),
+    (
+        "recheck",
+        "free waiting still refused:1 refused:2 refused:10 refused:11 refused:9",
+    ),
+    ("scan", "free waiting nothing refused:1 refused:2 refused:9"),
+    ("pick", "free waiting nothing"),
+    (
+        "deliver",
+        "free waiting blocked refused:1 refused:10 refused:12",
+    ),
+];
+
+const CHANGES: [&str; 9] = [
+    "recheck from blocked to free",
+    "recheck from blocked to waiting",
+    "scan from blocked to free",
+    "scan from blocked to waiting",
+    "pick from blocked to free",
+    "pick from blocked to waiting",
+    "deliver from waiting to free",
+    "deliver from waiting to waiting",
+    "deliver from blocked to blocked",
+];
+
+const FILE_REFUSALS: [&str; 5] = [
+    "file refused:20",
+    "file refused:21",
+    "file refused:22",
+    "file refused:23",
+    "file refused:24",
+];
+
+const SPECIAL: [&str; 10] = [
+    "finish of a free entry on a dry tank",
+    "finish refused for a waiting entry with nothing due",
+    "deliver refused for a waiting entry with nothing due",
+    "finish refused for a blocked entry",
+    "recheck refused for a free entry",
+    "recheck refused for a waiting entry",
+    "begin that burns the last unit",
+    "still, but nothing ahead is in conflict",
+    "scan of 1089",
+    "queue of 64",
+];
+
+fn wanted() -> BTreeSet<String> {
+    let mut wanted = BTreeSet::new();
+    for (call, answers) in CALLS {
+        wanted.extend(
+            answers
+                .split_whitespace()
+                .map(|answer| format!("{} {}", call, answer)),
+        );
+    }
+    let others = CHANGES.iter().chain(&FILE_REFUSALS).chain(&SPECIAL);
+    wanted.extend(others.map(|name| name.to_string()));
+    wanted
+}
+
+#[test]
+fn everything_is_reached_and_nothing_else() {
+    let mut seen = BTreeSet::new();
+    for (_, file) in batch(SEEDS) {
+        let refusal = walk(&file, |step| note(step, &mut seen));
+        seen.extend(refusal.map(|refusal| format!("file refused:{}", refusal.number())));
+    }
+    let wanted = wanted();
+    let missing: Vec<&String> = wanted.difference(&seen).collect();
+    assert!(missing.is_empty(), "never reached: {:?}", missing);
+    let strange: Vec<&String> = seen.difference(&wanted).collect();
+    assert!(strange.is_empty(), "not in document 01: {:?}", strange);
+}
+
+fn note(step: &Step<'_>, seen: &mut BTreeSet<String>) {
+    let call = step.event.call();
+    let answer = match step.answered_state() {
+        Some(state) => state.word().to_string(),
+        None => step.outcome.answer.to_string(),
+    };
+    seen.insert(format!("{} {}", call, answer));
+    if let (Some(entry), Some(state)) = (step.entry_before(), step.answered_state()) {
+        let (from, to) = (entry.state.word(), state.word());
+        seen.insert(format!("{} from {} to {}", call, from, to));
+    }
+    seen.extend(special(step).map(String::from));
+    if step.after.queue.len() == 64 {
+        seen.insert(String::from("queue of 64"));
+    }
+}
+
+/// What is special about a call, in the words of `SPECIAL`.
+fn special(step: &Step<'_>) -> Option<&'static str> {
+    let answer = step.outcome.answer.to_string();
+    let fuel_before = step
+        .event
+        .tenant()
+        .and_then(|tenant| step.before.fuel(tenant));
+    let fuel_after = step
+        .event
+        .tenant()
+        .and_then(|tenant| step.after.fuel(tenant));
+    let state = step.entry_before().map(|entry| entry.state);
+    let nothing_due = step.entry_before().map(|entry| entry.due) == Some(0);
+    match (step.event, answer.as_str(), state) {
+        (Event::Finish { .. }, "done", _) if fuel_before == Some(0) => Some(SPECIAL[0]),
+        (Event::Finish { .. }, "refused:11", Some(State::Waiting)) if nothing_due => {
+            Some(SPECIAL[1])
+        }
+        (Event::Deliver { .. }, "refused:12", Some(State::Waiting)) => Some(SPECIAL[2]),
+        (Event::Finish { .. }, "refused:11", Some(State::Blocked)) => Some(SPECIAL[3]),
+        (Event::Recheck { .. }, "refused:11", Some(State::Free)) => Some(SPECIAL[4]),
+        (Event::Recheck { .. }, "refused:11", Some(State::Waiting)) => Some(SPECIAL[5]),
+        (Event::Begin { .. }, _, _) if admitted(step) && fuel_after == Some(0) => Some(SPECIAL[6]),
+        (Event::Recheck { .. }, "still", _) if nothing_ahead(step) => Some(SPECIAL[7]),
+        (Event::Scan { .. }, _, _) if step.outcome.burnt == 1_089 => Some(SPECIAL[8]),
+        _ => None,
+    }
+}
+
+fn admitted(step: &Step<'_>) -> bool {
+    step.answered_state().is_some()
+}
+
+/// No entry ahead of the named one is in conflict with it.
+fn nothing_ahead(step: &Step<'_>) -> bool {
+    let named = step.entry_before().expect("a recheck names its entry");
+    let queue = step.before.queue.iter();
+    let mut ahead = queue.take_while(|entry| *entry != named);
+    !ahead.any(|entry| entry.request.conflicts_with(&named.request))
+}

@@ -1,0 +1,312 @@
+//! What holds after every call of every generated file: the fuel adds up, the
+//! queue stays sound, refusals leave the state, and the verdicts of the plain
+//! list are those of document 01's counters and maps.
+
+mod common;
+
+use common::{batch, walk, Step};
+use second::{Entry, Event, State, Table};
+
+const SEEDS: u64 = 120;
+const RECORDS: usize = 256;
+
+/// Shows every call of every file to `check`, and makes sure there were many.
+fn for_each_step(mut check: impl FnMut(&str, &Step<'_>)) {
+    let mut steps = 0;
+    for (name, file) in batch(SEEDS) {
+        walk(&file, |step| {
+            check(&name, step);
+            steps += 1;
+        });
+    }
+    assert!(steps > 50_000, "only {} calls", steps);
+}
+
+/// What one tenant was granted, has burnt, and called.
+#[derive(Clone, Copy, Default)]
+struct Account {
+    granted: u64,
+    burnt: u64,
+    /// Tenant calls not answered dry.
+    calls: u64,
+}
+
+/// Demand 3: for each tenant granted = burnt + left after every call, and the
+/// calls not answered dry are at most the fuel granted.
+#[test]
+fn fuel_adds_up() {
+    let mut accounts = [Account::default(); 16];
+    for_each_step(|name, step| {
+        if step.event.is_open() {
+            accounts = [Account::default(); 16];
+        }
+        let tenant = step
+            .event
+            .tenant()
+            .filter(|tenant| (1..=16).contains(tenant));
+        if let Some(tenant) = tenant {
+            book(&mut accounts[usize::from(tenant) - 1], step);
+        } else {
+            assert_eq!(step.outcome.burnt, 0, "{}: nobody to burn for", name);
+        }
+        for (account, meter) in accounts.iter().zip(&step.after.meters) {
+            let left = u64::from(meter.fuel);
+            assert_eq!(account.granted, account.burnt + left, "{}", name);
+            assert!(account.calls <= account.granted, "{}", name);
+            assert!(left <= 1_000_000_000, "{}", name);
+        }
+    });
+}
+
+fn book(account: &mut Account, step: &Step<'_>) {
+    account.burnt += u64::from(step.outcome.burnt);
+    match step.event {
+        Event::Grant { amount, .. } if step.refusal().is_none() => {
+            account.granted += u64::from(amount);
+        }
+        Event::Grant { .. } | Event::Deliver { .. } => assert_eq!(step.outcome.burnt, 0),
+        _ if step.refusal() == Some(2) => assert_eq!(step.outcome.burnt, 0),
+        _ => account.calls += 1,
+    }
+}
+
+/// A refusal leaves all but the fuel it burns. A call touches no other
+/// tenant's meter. Refused opens hand out a fresh state instead.
+#[test]
+fn refusals_leave_the_state() {
+    let mut refusals = 0;
+    for_each_step(|name, step| {
+        if step.event.is_open() || step.refusal().is_none() {
+            return;
+        }
+        let mut expected = step.before.clone();
+        if step.outcome.burnt > 0 {
+            let tenant = step.event.tenant().expect("fuel is a tenant's");
+            expected.meters[usize::from(tenant) - 1].fuel -= step.outcome.burnt;
+        }
+        assert_eq!(*step.after, expected, "{}", name);
+        refusals += 1;
+    });
+    assert!(refusals > 5_000, "only {} refusals", refusals);
+}
+
+/// The queue after every call: 64 entries at most, no tenant above its share,
+/// names in order, and states that fit what they await and conflict with.
+#[test]
+fn the_queue_stays_sound() {
+    for_each_step(|name, step| {
+        let table = step.after;
+        assert!(table.queue.len() <= 64, "{}", name);
+        for (before, meter) in table.meters.iter().enumerate() {
+            let own = |entry: &&Entry| usize::from(entry.tenant) == before + 1;
+            let serials: Vec<u16> = table.queue.iter().filter(own).map(|e| e.serial).collect();
+            assert!(serials.len() <= usize::from(meter.share), "{}", name);
+            assert!(serials.windows(2).all(|pair| pair[0] < pair[1]), "{}", name);
+            assert!(
+                serials.iter().all(|&s| 1 <= s && s <= meter.serials),
+                "{}",
+                name
+            );
+        }
+        for (at, entry) in table.queue.iter().enumerate() {
+            assert!(is_sound(entry, &table.queue[..at]), "{}: {:?}", name, entry);
+        }
+    });
+}
+
+fn is_sound(entry: &Entry, ahead: &[Entry]) -> bool {
+    let request = &entry.request;
+    let in_conflict = ahead
+        .iter()
+        .any(|other| request.conflicts_with(&other.request));
+    let state_fits = match entry.state {
+        State::Free => entry.due == 0 && !in_conflict,
+        State::Waiting => request.awaited > 0 && !in_conflict,
+        State::Blocked => request.n() > 0,
+    };
+    state_fits && entry.due <= request.awaited && request.awaited <= 15
+}
+
+/// Each record's count of writers (Cx) and readers (Cs) in the queue.
+struct Counters {
+    cx: [u32; RECORDS],
+    cs: [u32; RECORDS],
+}
+
+impl Counters {
+    fn of(queue: &[Entry]) -> Counters {
+        let mut counters = Counters {
+            cx: [0; RECORDS],
+            cs: [0; RECORDS],
+        };
+        for entry in queue {
+            counters.count(&entry.request.reads, &entry.request.writes);
+        }
+        counters
+    }
+
+    fn count(&mut self, reads: &[u8], writes: &[u8]) {
+        for &record in reads {
+            self.cs[usize::from(record)] += 1;
+        }
+        for &record in writes {
+            self.cx[usize::from(record)] += 1;
+        }
+    }
+
+    fn cx(&self, record: u8) -> u32 {
+        self.cx[usize::from(record)]
+    }
+
+    fn cs(&self, record: u8) -> u32 {
+        self.cs[usize::from(record)]
+    }
+}
+
+/// "A read clashes if Cx is above 0, a write if after its own count Cx is
+/// above 1 or Cs is above 0."
+#[test]
+fn begin_says_what_the_counters_say() {
+    let mut blocked = 0;
+    for_each_step(|name, step| {
+        let (reads, writes) = match step.event {
+            Event::Begin { reads, writes, .. } if step.refusal().is_none() => (reads, writes),
+            _ => return,
+        };
+        let before = Counters::of(&step.before.queue);
+        let mut after = Counters::of(&step.before.queue);
+        after.count(reads, writes);
+        let clash = reads.iter().any(|&record| before.cx(record) > 0)
+            || writes
+                .iter()
+                .any(|&record| after.cx(record) > 1 || before.cs(record) > 0);
+        let is_blocked = step.answered_state() == Some(State::Blocked);
+        assert_eq!(is_blocked, clash, "{}", name);
+        assert_eq!(
+            step.outcome.burnt as usize,
+            2 + 2 * (reads.len() + writes.len())
+        );
+        blocked += u32::from(is_blocked);
+    });
+    assert!(blocked > 1_000, "only {} blocked", blocked);
+}
+
+/// "If every written record has Cx = 1 and Cs = 0, and every read record has
+/// Cx = 0, the entry is promoted."
+#[test]
+fn recheck_says_what_the_counters_say() {
+    let (mut promoted, mut still) = (0, 0);
+    for_each_step(|name, step| {
+        let entry = match (step.event, step.refusal()) {
+            (Event::Recheck { .. }, None) => step.entry_before().expect("it was rechecked"),
+            _ => return,
+        };
+        let counters = Counters::of(&step.before.queue);
+        let writes = &entry.request.writes;
+        let reads = &entry.request.reads;
+        let alone = writes
+            .iter()
+            .all(|&record| counters.cx(record) == 1 && counters.cs(record) == 0)
+            && reads.iter().all(|&record| counters.cx(record) == 0);
+        assert_eq!(step.answered_state().is_some(), alone, "{}", name);
+        assert_eq!(step.outcome.burnt, 1 + entry.request.n(), "{}", name);
+        promoted += u32::from(alone);
+        still += u32::from(!alone);
+    });
+    assert!(promoted > 100, "only {} promoted", promoted);
+    assert!(still > 100, "only {} still", still);
+}
+
+/// What a scan must come to, by two maps of the records written and read by
+/// the entries already looked at.
+#[derive(Debug, PartialEq, Eq)]
+struct ScanEnd {
+    promoted: Option<(u8, u16)>,
+    cut_short: bool,
+    burnt: u32,
+}
+
+fn scan_by_maps(table: &Table, tenant: u8) -> ScanEnd {
+    let mut left = table.fuel(tenant).expect("a tenant scans") - 1;
+    let mut end = ScanEnd {
+        promoted: None,
+        cut_short: false,
+        burnt: 1,
+    };
+    let (mut written, mut read) = ([false; RECORDS], [false; RECORDS]);
+    for entry in &table.queue {
+        let price = 1 + entry.request.n();
+        if left < price {
+            end.cut_short = true;
+            break;
+        }
+        left -= price;
+        end.burnt += price;
+        let mut reads = entry.request.reads.iter().map(|&r| usize::from(r));
+        let mut writes = entry.request.writes.iter().map(|&r| usize::from(r));
+        let clear = reads.all(|r| !written[r]) && writes.all(|r| !written[r] && !read[r]);
+        if clear && entry.tenant == tenant && entry.state == State::Blocked {
+            end.promoted = Some((entry.tenant, entry.serial));
+            break;
+        }
+        for &record in &entry.request.reads {
+            read[usize::from(record)] = true;
+        }
+        for &record in &entry.request.writes {
+            written[usize::from(record)] = true;
+        }
+    }
+    end
+}
+
+#[test]
+fn scan_says_what_the_maps_say() {
+    let (mut promoted, mut dearest) = (0, 0);
+    for_each_step(|name, step| {
+        let tenant = match (step.event, step.refusal()) {
+            (Event::Scan { tenant }, None) | (Event::Scan { tenant }, Some(9)) => tenant,
+            _ => return,
+        };
+        let answered = match step.outcome.answer {
+            second::Answer::Entry { tenant, serial, .. } => Some((tenant, serial)),
+            _ => None,
+        };
+        let end = ScanEnd {
+            promoted: answered,
+            cut_short: step.refusal() == Some(9),
+            burnt: step.outcome.burnt,
+        };
+        assert_eq!(end, scan_by_maps(step.before, tenant), "{}", name);
+        assert!(end.burnt <= 1_089, "{}", name);
+        promoted += u32::from(answered.is_some());
+        dearest = dearest.max(end.burnt);
+    });
+    assert!(promoted > 100, "only {} promoted", promoted);
+    assert_eq!(dearest, 1_089);
+}
+
+/// A call changes the state of no entry but the one it answers with, and the
+/// others keep their order.
+#[test]
+fn other_entries_stay_as_they_are() {
+    for_each_step(|name, step| {
+        if step.event.is_open() {
+            return;
+        }
+        let touched = step
+            .entry_before()
+            .map(|entry| (entry.tenant, entry.serial));
+        let others = |table: &Table| -> Vec<Entry> {
+            let untouched = |entry: &&Entry| Some((entry.tenant, entry.serial)) != touched;
+            table.queue.iter().filter(untouched).cloned().collect()
+        };
+        let (before, mut after) = (others(step.before), others(step.after));
+        let admitted = matches!(step.event, Event::Begin { .. }) && step.refusal().is_none();
+        if admitted {
+            let last = after.pop().expect("it joined the back");
+            let meter = step.after.meters[usize::from(last.tenant) - 1];
+            assert_eq!(last.serial, meter.serials, "{}", name);
+        }
+        assert_eq!(before, after, "{}", name);
+    });
+}

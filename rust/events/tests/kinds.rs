@@ -1,0 +1,200 @@
+//! Each kind of generated file is what its name says.
+
+mod common;
+
+use common::{files, walk, Step};
+use events::kinds::{generate, Kind, KINDS};
+use std::collections::BTreeSet;
+
+const SEEDS: u64 = 96;
+
+/// How many files of a kind have a call of which `holds` is true.
+fn files_with(kind: Kind, holds: impl Fn(&Step<'_>) -> bool) -> u64 {
+    let mut count = 0;
+    for file in files(kind, SEEDS) {
+        let mut found = false;
+        walk(&file, |step| found = found || holds(step));
+        count += u64::from(found);
+    }
+    count
+}
+
+#[test]
+fn a_seed_gives_the_same_file_again() {
+    for (name, kind) in KINDS {
+        for seed in [0, 1, 77, u64::MAX] {
+            assert_eq!(generate(seed, kind), generate(seed, kind), "{}", name);
+        }
+    }
+}
+
+#[test]
+fn seeds_give_different_files() {
+    for (name, kind) in KINDS {
+        let different: BTreeSet<Vec<u8>> = files(kind, SEEDS).collect();
+        // Boundary files are short by nature, so that some come twice.
+        let least = if kind == Kind::Boundary {
+            SEEDS / 2
+        } else {
+            SEEDS - 2
+        };
+        assert!(
+            different.len() as u64 >= least,
+            "{}: {}",
+            name,
+            different.len()
+        );
+    }
+}
+
+#[test]
+fn names_find_their_kinds() {
+    for (name, kind) in KINDS {
+        assert_eq!(Kind::named(name), Some(kind));
+        assert!(Kind::names().contains(name));
+    }
+    assert_eq!(Kind::named("Mixed"), None);
+    assert_eq!(Kind::named(""), None);
+}
+
+/// Small enough that thousands of files compare fast.
+#[test]
+fn files_are_small() {
+    for (name, kind) in KINDS {
+        let mut sizes: Vec<usize> = files(kind, SEEDS).map(|file| file.len()).collect();
+        sizes.sort_unstable();
+        let most = if kind == Kind::Boundary {
+            65_537
+        } else {
+            16_384
+        };
+        assert!(sizes[sizes.len() - 1] <= most, "{}: {:?}", name, sizes);
+        assert!(sizes[sizes.len() / 2] <= 8_192, "{}: {:?}", name, sizes);
+    }
+}
+
+#[test]
+fn loads_are_good_files() {
+    let good = [
+        Kind::Mixed,
+        Kind::Deep,
+        Kind::Scarce,
+        Kind::Remote,
+        Kind::Refusals,
+        Kind::Worst,
+    ];
+    for kind in good {
+        for file in files(kind, SEEDS) {
+            assert_eq!(walk(&file, |_| ()), None, "{:?}", kind);
+        }
+    }
+}
+
+#[test]
+fn mixed_files_answer_in_every_way() {
+    let answers = ["ok", "done", "nothing", "free", "blocked", "refused"];
+    for answer in answers {
+        let with = files_with(Kind::Mixed, |step| {
+            step.outcome.answer.to_string().starts_with(answer)
+        });
+        assert!(with > SEEDS / 2, "{}: {} files", answer, with);
+    }
+}
+
+#[test]
+fn deep_files_have_deep_queues() {
+    assert_eq!(
+        files_with(Kind::Deep, |step| step.after.queue.len() > 32),
+        SEEDS
+    );
+    let tenants = |step: &Step<'_>| {
+        let held: BTreeSet<u8> = step.after.queue.iter().map(|entry| entry.tenant).collect();
+        held.len()
+    };
+    assert_eq!(files_with(Kind::Deep, |step| tenants(step) >= 10), SEEDS);
+}
+
+#[test]
+fn scarce_files_run_short() {
+    for number in [2, 9] {
+        let with = files_with(Kind::Scarce, |step| step.refusal() == Some(number));
+        assert!(with > SEEDS * 9 / 10, "refusal {}: {} files", number, with);
+    }
+}
+
+#[test]
+fn remote_files_promote_to_waiting() {
+    use second::State::{Blocked, Free, Waiting};
+    for (from, to) in [(Blocked, Waiting), (Waiting, Free), (Blocked, Blocked)] {
+        let with = files_with(Kind::Remote, |step| {
+            let before = step.entry_before().map(|entry| entry.state);
+            before == Some(from) && step.answered_state() == Some(to)
+        });
+        assert!(
+            with > SEEDS * 3 / 4,
+            "{:?} to {:?}: {} files",
+            from,
+            to,
+            with
+        );
+    }
+}
+
+/// Every number but 8 (no file reaches it) and 14 (which leaves no other
+/// call admitted) in most of the files.
+#[test]
+fn refusals_files_refuse() {
+    for number in [1, 2, 3, 4, 5, 6, 7, 9, 10, 11, 12, 13] {
+        let with = files_with(Kind::Refusals, |step| step.refusal() == Some(number));
+        assert!(with > SEEDS * 3 / 4, "refusal {}: {} files", number, with);
+    }
+    let with = files_with(Kind::Refusals, |step| step.refusal() == Some(14));
+    assert!(with > 0, "refusal 14");
+    assert_eq!(
+        files_with(Kind::Refusals, |step| step.refusal() == Some(8)),
+        0
+    );
+}
+
+#[test]
+fn worst_files_have_the_dearest_scan() {
+    let full = |step: &Step<'_>| {
+        let queue = &step.after.queue;
+        queue.len() == 64 && queue.iter().all(|entry| entry.request.n() == 16)
+    };
+    assert_eq!(files_with(Kind::Worst, full), SEEDS);
+    let dearest = |step: &Step<'_>| step.event.call() == "scan" && step.outcome.burnt == 1_089;
+    assert_eq!(files_with(Kind::Worst, dearest), SEEDS);
+}
+
+#[test]
+fn damaged_files_are_mostly_refused() {
+    let refused = files(Kind::Damaged, SEEDS)
+        .filter(|file| walk(file, |_| ()).is_some())
+        .count() as u64;
+    assert!(refused > SEEDS / 2, "{} files", refused);
+    assert!(refused < SEEDS, "no damage that leaves a good file");
+}
+
+#[test]
+fn boundary_files_have_the_sizes_of_the_boundaries() {
+    let sizes: BTreeSet<usize> = files(Kind::Boundary, SEEDS)
+        .map(|file| file.len())
+        .collect();
+    for size in [0, 1, 2, 19, 65_536, 65_537] {
+        assert!(sizes.contains(&size), "no file of {} bytes", size);
+    }
+    let mut refused = BTreeSet::new();
+    for file in files(Kind::Boundary, SEEDS) {
+        refused.extend(walk(&file, |_| ()).map(|refusal| refusal.number()));
+    }
+    let all: BTreeSet<u8> = (20..=24).collect();
+    assert_eq!(refused, all);
+}
+
+/// A file of exactly 65,536 bytes is read to its end.
+#[test]
+fn some_boundary_file_is_as_long_as_may_be_and_good() {
+    let mut longest = files(Kind::Boundary, SEEDS).filter(|file| file.len() == 65_536);
+    assert!(longest.any(|file| walk(&file, |_| ()).is_none()));
+}

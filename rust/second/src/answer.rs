@@ -1,0 +1,79 @@
+//! What a call gives back: its answer and the fuel it burnt.
+
+use crate::request::State;
+use std::fmt;
+
+/// The numbers of document 01's table, "Numbers a caller may get back".
+#[derive(Clone, Copy, Debug, PartialEq, Eq)]
+pub enum Refusal {
+    NoSuchTenant = 1,
+    Dry = 2,
+    TooManyRecords = 3,
+    NotRising = 4,
+    InBothLists = 5,
+    AwaitedTooHigh = 6,
+    ShareHeld = 7,
+    SerialsGiven = 8,
+    FuelBelowPrice = 9,
+    NoSuchEntry = 10,
+    WrongState = 11,
+    NothingDue = 12,
+    TooMuchFuel = 13,
+    BadShares = 14,
+}
+
+impl Refusal {
+    pub fn number(self) -> u8 {
+        self as u8
+    }
+}
+
+#[derive(Clone, Copy, Debug, PartialEq, Eq)]
+pub enum Answer {
+    Ok,
+    Done,
+    Still,
+    Nothing,
+    /// The state of an entry after the call, and its name.
+    Entry {
+        state: State,
+        tenant: u8,
+        serial: u16,
+    },
+    Refused(Refusal),
+}
+
+impl fmt::Display for Answer {
+    fn fmt(&self, out: &mut fmt::Formatter<'_>) -> fmt::Result {
+        match self {
+            Answer::Ok => write!(out, "ok"),
+            Answer::Done => write!(out, "done"),
+            Answer::Still => write!(out, "still"),
+            Answer::Nothing => write!(out, "nothing"),
+            Answer::Entry {
+                state,
+                tenant,
+                serial,
+            } => write!(out, "{}:{}.{}", state.word(), tenant, serial),
+            Answer::Refused(refusal) => write!(out, "refused:{}", refusal.number()),
+        }
+    }
+}
+
+/// An answer with the units burnt for it.
+#[derive(Clone, Copy, Debug, PartialEq, Eq)]
+pub struct Outcome {
+    pub answer: Answer,
+    pub burnt: u32,
+}
+
+impl Outcome {
+    pub fn burning(burnt: u32, answer: Answer) -> Outcome {
+        Outcome { answer, burnt }
+    }
+
+    /// For host calls, "which burn nothing", and for Finish.
+    pub fn burning_nothing(answer: Answer) -> Outcome {
+        Outcome { answer, burnt: 0 }
+    }
+}

@@ -1,0 +1,29 @@
+//! The price list. Every number of fuel that a call burns comes from here.
+
+use crate::answer::Refusal;
+
+/// "The price is 2 + 2n: 1 + n now and 1 + n for the release."
+pub fn begin(n: u32) -> u32 {
+    2 + 2 * n
+}
+
+pub fn recheck(n: u32) -> u32 {
+    1 + n
+}
+
+/// What a scan burns before it looks at any entry.
+pub const SCAN: u32 = 1;
+
+/// What a scan burns for each entry it looks at.
+pub fn look(n: u32) -> u32 {
+    1 + n
+}
+
+/// What a refused tenant call burns. A scan cut short is no case of this: it
+/// burns what its walk had burnt.
+pub fn refused(refusal: Refusal) -> u32 {
+    match refusal {
+        Refusal::NoSuchTenant | Refusal::Dry => 0,
+        _ => 1,
+    }
+}
