@@ -9,3 +9,4 @@ pub mod Steps
 pub mod Arrays
 pub mod Requests
 pub mod Slots
+pub mod Mapped

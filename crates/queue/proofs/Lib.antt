@@ -1,0 +1,3 @@
+pub mod Typed
+pub mod Shift
+pub mod Views
