@@ -10,3 +10,9 @@ pub mod Arrays
 pub mod Requests
 pub mod Slots
 pub mod Mapped
+pub mod Order
+pub mod Room
+pub mod Refusals
+pub mod Keeps
+pub mod Walks
+pub mod Sound

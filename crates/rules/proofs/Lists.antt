@@ -7,7 +7,7 @@ use mathlib.Core.Logic.{⊎-elim}
 use native.Mathlib.Numerals.{add-one}
 use native.Mathlib.Omega.{arith}
 use lib.Dec.{eqb, ltb}
-use lib.ListN.{length, getD, take, drop}
+use lib.ListN.{length, getD, take, drop, set}
 use lib.Seq.{split-at}
 use borrow.Author.Tests.{eqb-true, eq-eqb, lt-ltb, le-ltb}
 use Rattle.rules.specs.Lists.{if_then_else_, some, every, countIf, total, before}
@@ -89,6 +89,19 @@ module _ {A : Type 0} where
   unfolding total
   total-append f [] ys = omega arith
   total-append f (x ∷ xs) ys = omega (arith, total-append f xs ys)
+
+  -- an element is put that has the same number, or passes the same test
+  pub total-set : (f : A → ℕ) (xs : List A) (i : ℕ) (a d : A) → f a ≡ f (getD xs i d) → total f (set xs i a) ≡ total f xs
+  unfolding total
+  total-set f [] i a d e = refl
+  total-set f (x ∷ xs) zero a d e = ap (λ (n : ℕ). n + total f xs) e
+  total-set f (x ∷ xs) (suc i) a d e = ap (λ (n : ℕ). f x + n) (total-set f xs i a d e)
+
+  pub count-set : (f : A → Bool) (xs : List A) (i : ℕ) (a d : A) → f a ≡ f (getD xs i d) → countIf f (set xs i a) ≡ countIf f xs
+  unfolding countIf
+  count-set f [] i a d e = refl
+  count-set f (x ∷ xs) zero a d e = ap (λ (b : Bool). one b + countIf f xs) e
+  count-set f (x ∷ xs) (suc i) a d e = ap (λ (n : ℕ). one (f x) + n) (count-set f xs i a d e)
 
 -- a test of pairs may run over either list first
 pub some-some : {A B : Type 0} (f : A → B → Bool) (xs : List A) (ys : List B) → some (λ (x : A). some (f x) ys) xs ≡ some (λ (y : B). some (λ (x : A). f x y) xs) ys

@@ -6,7 +6,7 @@ use native.Mathlib.Omega.{arith}
 use lib.Dec.{eqb, leb}
 use lib.ListN.{length, getD, set, length-set}
 use lib.Seq.{getD-set-same, getD-set-other}
-use borrow.Author.Tests.{eqb-true, eqb-false, leb-true}
+use borrow.Author.Tests.{eqb-true, eqb-false, leb-true, le-leb}
 use Rattle.rules.specs.Lists.{if_then_else_}
 use Rattle.rules.specs.Table.{Meter, Table, isTenant, noMeter, meterOf, withMeter}
 use Rattle.rules.proofs.Tests.{both}
@@ -16,6 +16,9 @@ pub tenant-range : (who : ℕ) → isTenant who ≡ true → (1 ≤ who) × (who
 tenant-range who h =
     let p = both (leb 1 who) (leb who 16) h in
     (leb-true 1 who (p .0), leb-true who 16 (p .1))
+
+pub tenant-test : (who : ℕ) → 1 ≤ who → who ≤ 16 → isTenant who ≡ true
+tenant-test who a b = simp (le-leb 1 who a, le-leb who 16 b)
 
 -- a table has a meter for each of the tenants
 abbrev pub Sixteen : Table → Type 0

@@ -8,4 +8,5 @@ pub mod Counters
 pub mod Scan
 pub mod Calls
 pub mod Said
+pub mod Sound
 pub mod Runs

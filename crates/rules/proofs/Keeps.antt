@@ -1,0 +1,152 @@
+-- What keeps a table sound: a meter changed, an entry added, taken out or put in another's place.
+use Prim.Native.Nat.{ℕ, _+_, _-_, _≤_, _<_}
+use mathlib.Core.Path.{_≡_, refl, sym, ap, subst, _∙_}
+use mathlib.Core.Bool.{Bool, true, false, _&&_, _||_, not}
+use mathlib.Core.List.{List, [], _∷_, _++_}
+use native.Mathlib.Omega.{arith}
+use lib.Dec.{eqb, ltb}
+use lib.ListN.{length, getD, take, drop, set, length-set}
+use lib.Seq.{set-getD}
+use borrow.Author.Tests.{ltb-true, ltb-false, eqb-true}
+use Rattle.rules.specs.declared.Mode.the-variants.{Free, Waiting, Blocked}
+use Rattle.rules.specs.Lists.{if_then_else_, total}
+use Rattle.rules.specs.Records.{WellFormed}
+use Rattle.rules.specs.Request.{Request, nobody, size, conflict, isFree, isWaiting, isBlocked, withMode, promoted, delivered}
+use Rattle.rules.specs.Table.{Meter, Table, isTenant, noMeter, meterOf, withMeter, withQueue, placesOf, spent, burn, mostFuel}
+use Rattle.rules.specs.Calls.{withoutEntry, withEntry}
+use Rattle.rules.specs.Sound.{Each, InOrder, Fit, SoundTable, SerialsRise, ClearOf, givenBy}
+use Rattle.rules.proofs.Tests.{one, if-cases, if-either}
+use Rattle.rules.proofs.Lists.{total-set, count-set, count-last, count-without}
+use Rattle.rules.proofs.Meters.{tenant-range, meter-with, sixteen-with}
+use Rattle.rules.proofs.Order.{each-at, each-map, each-last, each-without, each-set, order-last, order-without, order-set, order-ahead}
+use Rattle.rules.proofs.Room.{place-taken}
+
+-- ---- the meters
+-- a tenant's meter changes, its share the same and no serial taken back
+module _ {t : Table} (s : SoundTable t) (who : ℕ) (h : isTenant who ≡ true) (m : Meter) (share : m .share ≡ meterOf t who .share) (serials : meterOf t who .serials ≤ m .serials) where
+  kept-share : (other : ℕ) → isTenant other ≡ true → meterOf (withMeter t who m) other .share ≡ meterOf t other .share
+  kept-share other k =
+      rw (meter-with t (s .sixteen) who h m other k)
+      (if-cases (λ (n : Meter). n .share ≡ meterOf t other .share) (eqb who other) (λ e. rw (← (eqb-true who other e)) share) (λ e. refl))
+
+  more-serials : (other : ℕ) → isTenant other ≡ true → meterOf t other .serials ≤ meterOf (withMeter t who m) other .serials
+  more-serials other k =
+      rw (meter-with t (s .sixteen) who h m other k)
+      (if-cases (λ (n : Meter). meterOf t other .serials ≤ n .serials) (eqb who other) (λ e. rw (← (eqb-true who other e)) serials) (λ e. omega arith))
+
+  fit-still : (e : Request) → Fit (givenBy t) e → Fit (givenBy (withMeter t who m)) e
+  fit-still e f = record {
+    awaited = f .awaited;
+    due = f .due;
+    tenant = f .tenant;
+    from-one = f .from-one;
+    to-given = omega (arith, f .to-given, more-serials (e .tenant) (f .tenant));
+    free = f .free;
+    waiting = f .waiting;
+    blocked = f .blocked;
+    lists = f .lists;
+  }
+
+  pub sound-meter : m .fuel ≤ mostFuel → SoundTable (withMeter t who m)
+  sound-meter full = record {
+    sixteen = simp length-set (s .sixteen);
+    shares = rw (total-set (λ (n : Meter). n .share) (t .meters) (who - 1) m noMeter share) (s .shares);
+    fuel = each-set (who - 1) (s .fuel) full;
+    places = λ other k. rw (kept-share other k) (s .places other k);
+    entries = each-map fit-still (s .entries);
+    serials = s .serials;
+    clear = s .clear;
+  }
+
+module _ {t : Table} (s : SoundTable t) where
+  -- no tank is above its limit
+  pub fuel-limit : (who : ℕ) → isTenant who ≡ true → meterOf t who .fuel ≤ mostFuel
+  fuel-limit who h =
+      let r = tenant-range who h in
+      let lt : who - 1 < length (t .meters) = omega (arith, s .sixteen, r .0, r .1) in
+      each-at (s .fuel) (who - 1) noMeter lt
+
+  pub sound-burn : (who units : ℕ) → isTenant who ≡ true → SoundTable (burn who units t)
+  sound-burn who units h =
+      sound-meter s who h (spent (meterOf t who) units) refl (omega arith) (omega (arith, fuel-limit who h))
+
+-- who burns nothing leaves the table as it is
+pub burn-none : (who : ℕ) (t : Table) → burn who 0 t ≡ t
+burn-none who t =
+    let same : meterOf t who .fuel - 0 ≡ meterOf t who .fuel = omega arith in
+    let m : spent (meterOf t who) 0 ≡ meterOf t who = ap (λ (n : ℕ). record { fuel = n; serials = meterOf t who .serials; share = meterOf t who .share }) same in
+    ap (λ (ms : List Meter). record { meters = ms; queue = t .queue }) (ap (set (t .meters) (who - 1)) m ∙ set-getD (t .meters) (who - 1) noMeter)
+
+-- ---- one entry
+-- a running entry is fit, whatever its state was: Waiting with awaited above 0, Free with nothing due
+pub promoted-fit : (given : ℕ → ℕ) (e : Request) → e .awaited ≤ 15 → e .due ≤ e .awaited → isTenant (e .tenant) ≡ true → 1 ≤ e .serial → e .serial ≤ given (e .tenant) → WellFormed (e .reads) (e .writes) → Fit given (promoted e)
+unfolding promoted
+promoted-fit given e awaited due tenant from-one to-given lists = go (ltb 0 (e .awaited)) refl
+  where
+    go : (b : Bool) → ltb 0 (e .awaited) ≡ b → Fit given (withMode e (if b then Waiting else Free))
+    go true above = record {
+      awaited = awaited;
+      due = due;
+      tenant = tenant;
+      from-one = from-one;
+      to-given = to-given;
+      free = λ (z : false ≡ true). cc;
+      waiting = λ z. ltb-true 0 (e .awaited) above;
+      blocked = λ (z : false ≡ true). let k : _≡_ {A = ℕ} 0 1 = cc in absurd (omega arith);
+      lists = lists;
+    }
+    go false none = record {
+      awaited = awaited;
+      due = due;
+      tenant = tenant;
+      from-one = from-one;
+      to-given = to-given;
+      free = λ z. omega (arith, due, ltb-false 0 (e .awaited) none);
+      waiting = λ (z : false ≡ true). let k : _≡_ {A = ℕ} 0 1 = cc in absurd (omega arith);
+      blocked = λ (z : false ≡ true). let k : _≡_ {A = ℕ} 0 1 = cc in absurd (omega arith);
+      lists = lists;
+    }
+
+-- ---- the queue
+module _ {t : Table} (s : SoundTable t) where
+  -- an entry joins the back
+  pub sound-joined : (e : Request) → Fit (givenBy t) e → placesOf (t .queue) (e .tenant) < meterOf t (e .tenant) .share → Each (λ a. SerialsRise a e) (t .queue) → Each (λ a. ClearOf a e) (t .queue) → SoundTable (withQueue t (t .queue ++ e ∷ []))
+  sound-joined e f place rise clear = record {
+    sixteen = s .sixteen;
+    shares = s .shares;
+    fuel = s .fuel;
+    places = place-taken s e place;
+    entries = each-last (s .entries) f;
+    serials = order-last (s .serials) rise;
+    clear = order-last (s .clear) clear;
+  }
+
+  -- an entry leaves
+  pub sound-removed : (at : ℕ) → at < length (t .queue) → SoundTable (withQueue t (withoutEntry at (t .queue)))
+  sound-removed at lt = record {
+    sixteen = s .sixteen;
+    shares = s .shares;
+    fuel = s .fuel;
+    places = λ who h. omega (arith, s .places who h, count-without (λ (a : Request). eqb (a .tenant) who) (t .queue) at nobody lt);
+    entries = each-without at (s .entries);
+    serials = order-without at (s .serials);
+    clear = order-without at (s .clear);
+  }
+
+  -- an entry takes the place of another of the same name and lists
+  pub sound-replaced : (at : ℕ) → at < length (t .queue) → (e : Request) → let old = getD (t .queue) at nobody in e .tenant ≡ old .tenant → e .serial ≡ old .serial → e .reads ≡ old .reads → e .writes ≡ old .writes → Fit (givenBy t) e → Each (λ a. ClearOf a e) (take at (t .queue)) → SoundTable (withEntry t at e)
+  unfolding conflict
+  sound-replaced at lt e tenant serial reads writes f clear =
+      let old = getD (t .queue) at nobody in
+      let ahead : Each (λ a. SerialsRise a e) (take at (t .queue)) = each-map (λ a (r : SerialsRise a old). λ same. rw serial (r (same ∙ tenant))) (order-ahead at nobody lt (s .serials)) in
+      let behind : (y : Request) → SerialsRise old y → SerialsRise e y = λ y (r : SerialsRise old y). λ same. rw serial (r (sym tenant ∙ same)) in
+      let after : (y : Request) → ClearOf old y → ClearOf e y = λ y (r : ClearOf old y). λ runs. rw (reads, writes) (r runs) in
+      record {
+        sixteen = s .sixteen;
+        shares = s .shares;
+        fuel = s .fuel;
+        places = λ who h. rw (count-set (λ (a : Request). eqb (a .tenant) who) (t .queue) at e nobody (ap (λ (n : ℕ). eqb n who) tenant)) (s .places who h);
+        entries = each-set at (s .entries) f;
+        serials = order-set at nobody lt (s .serials) ahead behind;
+        clear = order-set at nobody lt (s .clear) clear after;
+      }

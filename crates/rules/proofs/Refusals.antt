@@ -1,0 +1,63 @@
+-- The rows of a call's refusals: what no refusal means, and that a number that is no tenant is refused with 1.
+use Prim.Native.Nat.{ℕ, _+_, _≤_, _<_}
+use mathlib.Core.Path.{_≡_, refl, sym, ap, subst, _∙_}
+use mathlib.Core.Bool.{Bool, true, false, _&&_, _||_, not}
+use mathlib.Core.List.{List, [], _∷_}
+use mathlib.Core.Logic.{⊎-elim}
+use native.Mathlib.Omega.{arith}
+use lib.Dec.{eqb, ltb, leb}
+use lib.ListN.{length, getD}
+use borrow.Author.Tests.{eq-eqb, ltb-false, leb-false, eqb-false, eqb-true, not-false}
+use Rattle.rules.specs.Lists.{if_then_else_, some, total, before}
+use Rattle.rules.specs.Records.{member, rising, meets, WellFormed}
+use Rattle.rules.specs.Request.{Request, nobody, size, isNamed, isFree, isBlocked}
+use Rattle.rules.specs.Table.{Table, meterOf, isTenant, placesOf, mostFuel}
+use Rattle.rules.specs.Prices.{Prices, admission, charge, costly}
+use Rattle.rules.specs.Refusals.{Row, _gives_, firstOf, isDry, standsAt, isAbsent, entryOf, beginRows, finishRows, recheckRows, scanRows, deliverRows, grantRows, openRows}
+use Rattle.rules.proofs.Tests.{both, neither, lt-or-ge}
+use Rattle.rules.proofs.Admission.{Admissible}
+
+-- ---- one row
+pub pass : (test : Bool) (number : ℕ) (rows : List Row) → eqb number 0 ≡ false → firstOf (test gives number ∷ rows) ≡ 0 → (test ≡ false) × (firstOf rows ≡ 0)
+unfolding firstOf
+pass true number rows n e = let z : true ≡ false = sym (eq-eqb number 0 e) ∙ n in (z, cc)
+pass false number rows n e = (refl, e)
+
+-- number 1 burns nothing
+pub free-of-charge : (p : Prices) (fuel : ℕ) → charge p fuel 1 ≡ 0
+unfolding charge costly member some
+free-of-charge p fuel = refl
+
+-- ---- Begin
+pub begin-passes : (p : Prices) (t : Table) (e : Request) → firstOf (beginRows p t e) ≡ 0 → Admissible p t e
+unfolding beginRows
+begin-passes p t e z =
+    let m = meterOf t (e .tenant) in
+    let a = pass _ 1 _ refl z in
+    let b = pass _ 2 _ refl (a .1) in
+    let c = pass _ 3 _ refl (b .1) in
+    let d = pass _ 4 _ refl (c .1) in
+    let f = pass _ 5 _ refl (d .1) in
+    let g = pass _ 6 _ refl (f .1) in
+    let h = pass _ 7 _ refl (g .1) in
+    let i = pass _ 8 _ refl (h .1) in
+    let j = pass _ 9 _ refl (i .1) in
+    let few = neither (ltb 8 (length (e .reads))) (ltb 8 (length (e .writes))) (c .0) in
+    let rise = both (rising (e .reads)) (rising (e .writes)) (not-false (rising (e .reads) && rising (e .writes)) (d .0)) in
+    record {
+      tenant = not-false (isTenant (e .tenant)) (a .0);
+      lists = record { few-reads = ltb-false 8 (length (e .reads)) (few .0); few-writes = ltb-false 8 (length (e .writes)) (few .1); reads-rise = rise .0; writes-rise = rise .1; apart = f .0 };
+      awaited = ltb-false 15 (e .awaited) (g .0);
+      place = leb-false (m .share) (placesOf (t .queue) (e .tenant)) (h .0);
+      serial = leb-false 65535 (m .serials) (i .0);
+      some-fuel = positive (m .fuel) (b .0);
+      fuel = ltb-false (m .fuel) (admission p e) (j .0);
+    }
+  where
+    positive : (n : ℕ) → eqb n 0 ≡ false → 0 < n
+    positive n k = ⊎-elim (λ (h : 0 < n). h) (λ (h : n ≤ 0). absurd (eqb-false n 0 k (omega arith))) (lt-or-ge 0 n)
+
+-- ---- a number that is no tenant is refused with 1, whatever the other rows say
+pub stranger : (who : ℕ) (rows : List Row) → isTenant who ≡ false → firstOf (not (isTenant who) gives 1 ∷ rows) ≡ 1
+unfolding firstOf
+stranger who rows h = rw h refl

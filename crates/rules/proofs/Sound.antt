@@ -1,0 +1,300 @@
+-- Every call keeps a table sound, and an opening makes one, whatever the prices.
+use Prim.Native.Nat.{ℕ, suc, _+_, _-_, _≤_, _<_}
+use mathlib.Core.Path.{_≡_, refl, sym, ap, subst, _∙_}
+use mathlib.Core.Bool.{Bool, true, false, _&&_, _||_, not}
+use mathlib.Core.List.{List, [], _∷_, _++_, map}
+use native.Mathlib.Nat.{not-suc-le-zero}
+use native.Mathlib.Omega.{arith}
+use lib.Dec.{eqb, ltb, leb}
+use lib.ListN.{length, getD, take, drop, set, replicate, length-map}
+use borrow.Author.Tests.{ltb-false, leb-false, eqb-true, eqb-false, not-true, not-false, ltb-true}
+use Rattle.rules.specs.declared.Mode.{Mode}
+use Rattle.rules.specs.declared.Mode.the-variants.{Free, Waiting, Blocked}
+use Rattle.rules.specs.declared.Answer.{Answer}
+use Rattle.rules.specs.Lists.{if_then_else_, some, total, countIf, before}
+use Rattle.rules.specs.Request.{Request, nobody, size, conflict, conflictsAny, isFree, isWaiting, isBlocked, withMode, withDue, promoted, admitted, delivered}
+use Rattle.rules.specs.Table.{Meter, Table, isTenant, meterOf, withMeter, numbered, granted, placesOf, burn, fresh, newMeter, mostFuel}
+use Rattle.rules.specs.Prices.{Prices, admission}
+use Rattle.rules.specs.Refusals.{Row, _gives_, firstOf, standsAt, isAbsent, entryOf, beginRows, finishRows, recheckRows, scanRows, deliverRows, grantRows, openRows}
+use Rattle.rules.specs.Counters.{cx, cs, alone}
+use Rattle.rules.specs.Scan.{End, found, nothing, short}
+use Rattle.rules.specs.Calls.{Outcome, toPay, tenantCall, withoutEntry, withEntry, asked, joined, found-table, search, pickEnd, beginOf, finishOf, recheckOf, scanOf, openOf, grantOf, pickOf, deliverOf}
+use Rattle.rules.specs.Runs.{Call, step}
+use Rattle.rules.specs.Runs.Call.{Begin, Finish, Recheck, Scan, Open, Grant, Pick, Deliver}
+use Rattle.rules.specs.Sound.{Each, InOrder, Fit, SoundTable, SerialsRise, ClearOf, givenBy}
+use Rattle.rules.proofs.Tests.{both, neither, if-cases}
+use Rattle.rules.proofs.Lists.{some-append}
+use Rattle.rules.proofs.Requests.{delivered-as, conflict-size}
+use Rattle.rules.proofs.Meters.{meter-own, sixteen-with}
+use Rattle.rules.proofs.Admission.{Admissible}
+use Rattle.rules.proofs.Refusals.{pass, stranger, free-of-charge, begin-passes}
+use Rattle.rules.proofs.Order.{each-at, each-map, each-none, each-take, order-ahead}
+use Rattle.rules.proofs.Keeps.{sound-meter, sound-burn, burn-none, fuel-limit, promoted-fit, sound-joined, sound-removed, sound-replaced}
+use Rattle.rules.proofs.Verdicts.{alone-conflicts}
+use Rattle.rules.proofs.Walks.{stop-clear, walk-stops}
+
+-- ---- a tenant's call: the deed is sound where there is no refusal, and burning keeps it so
+tenant-sound : (p : Prices) {t : Table} → SoundTable t → (who number price : ℕ) (deed : Table) → (isTenant who ≡ false → number ≡ 1) → (number ≡ 0 → SoundTable deed) → SoundTable (burn who (toPay p t who number price) (if eqb number 0 then deed else t))
+tenant-sound p {t} s who number price deed outside inside = go (isTenant who) refl
+  where
+    go : (b : Bool) → isTenant who ≡ b → SoundTable (burn who (toPay p t who number price) (if eqb number 0 then deed else t))
+    go true h = sound-burn (if-cases SoundTable (eqb number 0) (λ z. inside (eqb-true number 0 z)) (λ z. s)) who (toPay p t who number price) h
+    go false h = rw (outside h, free-of-charge p (meterOf t who .fuel), burn-none who t) s
+
+-- what cannot be: false is not true
+never : {A : Type 0} → false ≡ true → A
+never z = let k : _≡_ {A = ℕ} 0 1 = cc in absurd (omega arith)
+
+-- ---- Begin
+module _ (p : Prices) {t : Table} (s : SoundTable t) (who awaited : ℕ) (reads writes : List ℕ) (a : Admissible p t (asked t who awaited reads writes)) where
+  abbrev wanted : Request
+  wanted = asked t who awaited reads writes
+
+  -- the table once the serial is given
+  abbrev given : Table
+  given = withMeter t who (numbered (meterOf t who))
+
+  given-sound : SoundTable given
+  given-sound = sound-meter s who (a .tenant) (numbered (meterOf t who)) refl (omega arith) (fuel-limit s who (a .tenant))
+
+  given-own : meterOf given who ≡ numbered (meterOf t who)
+  given-own = meter-own t (s .sixteen) who (a .tenant) (numbered (meterOf t who))
+
+  last-serial : wanted .serial ≤ givenBy given who
+  last-serial = let k : givenBy given who ≡ meterOf t who .serials + 1 = ap (λ (m : Meter). m .serials) given-own in omega arith
+
+  rises : Each (λ x. SerialsRise x wanted) (t .queue)
+  rises =
+      each-map (λ x (f : Fit (givenBy t) x). λ (same : x .tenant ≡ who). let k : x .serial ≤ givenBy t who = rw same at (f .to-given) in omega arith) (s .entries)
+
+  place : placesOf (t .queue) who < meterOf given who .share
+  place = let k : meterOf given who .share ≡ meterOf t who .share = ap (λ (m : Meter). m .share) given-own in omega (arith, a .place)
+
+  blocked-fit : conflictsAny (t .queue) wanted ≡ true → Fit (givenBy given) wanted
+  blocked-fit clash = record {
+    awaited = a .awaited;
+    due = omega arith;
+    tenant = a .tenant;
+    from-one = omega arith;
+    to-given = last-serial;
+    free = never;
+    waiting = never;
+    blocked = λ z. conflict-size (t .queue) wanted clash;
+    lists = a .lists;
+  }
+
+  pub begin-sound : SoundTable (joined t (admitted (t .queue) wanted))
+  unfolding admitted promoted conflict
+  begin-sound = if-cases (λ (entry : Request). SoundTable (joined t entry)) (conflictsAny (t .queue) wanted)
+      (λ clash. sound-joined given-sound wanted (blocked-fit clash) place rises (each-map (λ x f. λ runs. never (sym runs)) (s .entries)))
+      (λ clear.
+      sound-joined given-sound (promoted wanted)
+      (promoted-fit (givenBy given) wanted (a .awaited) (omega arith) (a .tenant) (omega arith) last-serial (a .lists))
+      place rises (each-map (λ x h. λ runs. h) (each-none (λ x. conflict x wanted) (t .queue) clear)))
+
+pub begin-keeps : (p : Prices) {t : Table} → SoundTable t → (who awaited : ℕ) (reads writes : List ℕ) → SoundTable (beginOf p t who awaited reads writes .table)
+unfolding beginOf beginRows
+begin-keeps p {t} s who awaited reads writes =
+    let e = asked t who awaited reads writes in
+    tenant-sound p s who (firstOf (beginRows p t e)) (admission p e) (joined t (admitted (t .queue) e)) (stranger who _)
+    (λ z. begin-sound p s who awaited reads writes (begin-passes p t e z))
+
+-- ---- an entry that is there
+here : (who serial : ℕ) (q : List Request) → isAbsent who serial q ≡ false → standsAt who serial q < length q
+here who serial q h = leb-false (length q) (standsAt who serial q) h
+
+-- ---- Finish
+pub finish-keeps : (p : Prices) {t : Table} → SoundTable t → (who serial : ℕ) → SoundTable (finishOf p t who serial .table)
+unfolding finishOf finishRows
+finish-keeps p {t} s who serial =
+    tenant-sound p s who (firstOf (finishRows t who serial)) (p .finish) _ (stranger who _)
+    (λ z.
+    let a = pass _ 1 _ refl z in
+    let b = pass _ 2 _ refl (a .1) in
+    let c = pass _ 10 _ refl (b .1) in
+    sound-removed s (standsAt who serial (t .queue)) (here who serial (t .queue) (c .0)))
+
+-- ---- a delivered answer
+delivered-fit : (given : ℕ → ℕ) (e : Request) → Fit given e → eqb (e .due) 0 ≡ false → Fit given (delivered e)
+unfolding size
+delivered-fit given e f some-due = rw (delivered-as e) (go (isWaiting (e .mode) && eqb (e .due - 1) 0) refl)
+  where
+    go : (b : Bool) → (isWaiting (e .mode) && eqb (e .due - 1) 0) ≡ b → Fit given (withMode (withDue e (e .due - 1)) (if b then Free else (e .mode)))
+    go true last = record {
+      awaited = f .awaited;
+      due = omega (arith, f .due);
+      tenant = f .tenant;
+      from-one = f .from-one;
+      to-given = f .to-given;
+      free = λ z. eqb-true (e .due - 1) 0 (both (isWaiting (e .mode)) (eqb (e .due - 1) 0) last .1);
+      waiting = never;
+      blocked = never;
+      lists = f .lists;
+    }
+    go false more = record {
+      awaited = f .awaited;
+      due = omega (arith, f .due);
+      tenant = f .tenant;
+      from-one = f .from-one;
+      to-given = f .to-given;
+      free = λ z. absurd (eqb-false (e .due) 0 some-due (f .free z));
+      waiting = f .waiting;
+      blocked = f .blocked;
+      lists = f .lists;
+    }
+
+-- an answer makes no Blocked entry run
+delivered-blocked : (e : Request) → isBlocked (delivered e .mode) ≡ isBlocked (e .mode)
+unfolding delivered
+delivered-blocked e = go (e .mode) (eqb (e .due - 1) 0)
+  where
+    go : (m : Mode) (b : Bool) → isBlocked ((if isWaiting m && b then withMode (withDue (withMode e m) (e .due - 1)) Free else withDue (withMode e m) (e .due - 1)) .mode) ≡ isBlocked m
+    go Free b = refl
+    go Waiting true = refl
+    go Waiting false = refl
+    go Blocked b = refl
+
+-- ---- an entry is changed where it stands
+module _ {t : Table} (s : SoundTable t) (at : ℕ) (there : at < length (t .queue)) where
+  -- an entry that conflicts with nothing ahead may run
+  pub promotion-sound : Each (λ a. conflict a (getD (t .queue) at nobody) ≡ false) (take at (t .queue)) → SoundTable (withEntry t at (promoted (getD (t .queue) at nobody)))
+  unfolding promoted conflict
+  promotion-sound clear =
+      let e = getD (t .queue) at nobody in
+      let f : Fit (givenBy t) e = each-at (s .entries) at nobody there in
+      sound-replaced s at there (promoted e) refl refl refl refl
+      (promoted-fit (givenBy t) e (f .awaited) (f .due) (f .tenant) (f .from-one) (f .to-given) (f .lists))
+      (each-map (λ a h. λ runs. h) clear)
+
+  -- an answer changes neither name nor lists, and what ran may still run
+  pub delivery-sound : eqb (getD (t .queue) at nobody .due) 0 ≡ false → SoundTable (withEntry t at (delivered (getD (t .queue) at nobody)))
+  unfolding conflict
+  delivery-sound some-due =
+      let e = getD (t .queue) at nobody in
+      let f : Fit (givenBy t) e = each-at (s .entries) at nobody there in
+      let same = delivered-as e in
+      sound-replaced s at there (delivered e) (ap (λ (r : Request). r .tenant) same) (ap (λ (r : Request). r .serial) same) (ap (λ (r : Request). r .reads) same) (ap (λ (r : Request). r .writes) same) (delivered-fit (givenBy t) e f some-due)
+      (each-map (λ a (h : ClearOf a e). λ runs. rw same (h (sym (delivered-blocked e) ∙ runs))) (order-ahead at nobody there (s .clear)))
+
+-- ---- Recheck
+pub recheck-keeps : (p : Prices) {t : Table} → SoundTable t → (who serial : ℕ) → SoundTable (recheckOf p t who serial .table)
+unfolding recheckOf recheckRows
+recheck-keeps p {t} s who serial =
+    tenant-sound p s who (firstOf (recheckRows p t who serial)) _ _ (stranger who _)
+    (λ z.
+    let a = pass _ 1 _ refl z in
+    let b = pass _ 2 _ refl (a .1) in
+    let c = pass _ 10 _ refl (b .1) in
+    let at = standsAt who serial (t .queue) in
+    let e = entryOf who serial (t .queue) in
+    let there = here who serial (t .queue) (c .0) in
+    let lists = each-at (s .entries) at nobody there .lists in
+    if-cases SoundTable (alone (cx (t .queue)) (cs (t .queue)) e)
+    (λ (clear : alone (cx (t .queue)) (cs (t .queue)) e ≡ true).
+    let none : conflictsAny (withoutEntry at (t .queue)) e ≡ false = not-true _ (sym (alone-conflicts (t .queue) at there lists) ∙ clear) in
+    let ahead = neither (conflictsAny (take at (t .queue)) e) (conflictsAny (drop (at + 1) (t .queue)) e) (sym (some-append (λ x. conflict x e) (take at (t .queue)) (drop (at + 1) (t .queue))) ∙ none) in
+    promotion-sound s at there (each-none (λ x. conflict x e) (take at (t .queue)) (ahead .0)))
+    (λ still. s))
+
+-- ---- a search, and Pick: where an entry is found, nothing ahead of it conflicts
+found-sound : {t : Table} → SoundTable t → (end : End) → ((at : ℕ) → end ≡ found at → (at < length (t .queue)) × (conflictsAny (take at (t .queue)) (getD (t .queue) at nobody) ≡ false)) → SoundTable (found-table t end)
+found-sound {t} s (found at) h =
+    let k = h at refl in
+    promotion-sound s at (k .0) (each-none (λ x. conflict x (getD (t .queue) at nobody)) (take at (t .queue)) (k .1))
+found-sound s nothing h = s
+found-sound s short h = s
+
+pub scan-keeps : (p : Prices) {t : Table} → SoundTable t → (who : ℕ) → SoundTable (scanOf p t who .table)
+unfolding scanOf scanRows
+scan-keeps p {t} s who =
+    tenant-sound p s who (firstOf (scanRows t who)) _ _ (stranger who _)
+    (λ z. found-sound s (search p t who .end)
+    (λ at e.
+    let stop = walk-stops p who (meterOf t who .fuel - p .search) [] (t .queue) at e in
+    (stop .there, stop-clear stop)))
+
+-- the front has nothing ahead
+front-found : (q : List Request) (at : ℕ) → pickEnd q ≡ found at → (at < length q) × (conflictsAny (take at q) (getD q at nobody) ≡ false)
+unfolding some
+front-found [] at = λ (e : nothing ≡ found at). let k : _≡_ {A = ℕ} 0 1 = cc in absurd (omega arith)
+front-found (x ∷ q) at =
+    let clear : End → Type 0 = λ end. end ≡ found at → (at < length (x ∷ q)) × (conflictsAny (take at (x ∷ q)) (getD (x ∷ q) at nobody) ≡ false) in
+    if-cases clear (isBlocked (x .mode))
+    (λ h. λ (e : found 0 ≡ found at). let k : 0 ≡ at = cc in rw (← k) (omega arith, refl))
+    (λ h. λ (e : nothing ≡ found at). let k : _≡_ {A = ℕ} 0 1 = cc in absurd (omega arith))
+
+pub pick-keeps : {t : Table} → SoundTable t → SoundTable (pickOf t .table)
+unfolding pickOf
+pick-keeps {t} s = found-sound s (pickEnd (t .queue)) (front-found (t .queue))
+
+-- ---- Deliver
+pub deliver-keeps : {t : Table} → SoundTable t → (who serial : ℕ) → SoundTable (deliverOf t who serial .table)
+unfolding deliverOf deliverRows
+deliver-keeps {t} s who serial =
+    if-cases SoundTable (eqb (firstOf (deliverRows t who serial)) 0)
+    (λ z.
+    let a = pass _ 1 _ refl (eqb-true _ 0 z) in
+    let b = pass _ 10 _ refl (a .1) in
+    let c = pass _ 12 _ refl (b .1) in
+    delivery-sound s (standsAt who serial (t .queue)) (here who serial (t .queue) (b .0)) (c .0))
+    (λ z. s)
+
+-- ---- Grant
+pub grant-keeps : {t : Table} → SoundTable t → (who amount : ℕ) → SoundTable (grantOf t who amount .table)
+unfolding grantOf grantRows
+grant-keeps {t} s who amount =
+    if-cases SoundTable (eqb (firstOf (grantRows t who amount)) 0)
+    (λ z.
+    let a = pass _ 1 _ refl (eqb-true _ 0 z) in
+    let b = pass _ 13 _ refl (a .1) in
+    let fits : meterOf t who .fuel + amount ≤ mostFuel = ltb-false mostFuel (meterOf t who .fuel + amount) (b .0) in
+    sound-meter s who (not-false (isTenant who) (a .0)) (granted (meterOf t who) amount) refl (omega arith) fits)
+    (λ z. s)
+
+-- ---- Open
+fresh-shares : (shares : List ℕ) → total (λ (m : Meter). m .share) (map newMeter shares) ≡ total (λ (n : ℕ). n) shares
+unfolding total
+fresh-shares [] = refl
+fresh-shares (x ∷ shares) = ap (λ (n : ℕ). x + n) (fresh-shares shares)
+
+fresh-fuel : (shares : List ℕ) → Each (λ (m : Meter). m .fuel ≤ mostFuel) (map newMeter shares)
+fresh-fuel [] = Each.none
+fresh-fuel (x ∷ shares) = let none : 0 ≤ mostFuel = omega arith in Each.also none (fresh-fuel shares)
+
+fresh-sound : (shares : List ℕ) → length shares ≡ 16 → total (λ n. n) shares ≤ 64 → SoundTable (fresh shares)
+unfolding fresh countIf
+fresh-sound shares six sum = record {
+  sixteen = length-map shares newMeter ∙ six;
+  shares = rw (fresh-shares shares) sum;
+  fuel = fresh-fuel shares;
+  places = λ who h. omega arith;
+  entries = Each.none;
+  serials = InOrder.none;
+  clear = InOrder.none;
+}
+
+no-shares : total (λ (n : ℕ). n) (replicate 16 0) ≤ 64
+unfolding total
+no-shares = omega arith
+
+pub open-sound : (shares : List ℕ) → SoundTable (openOf shares .table)
+unfolding openOf openRows
+open-sound shares =
+    if-cases SoundTable (eqb (firstOf (openRows shares)) 0)
+    (λ z.
+    let a = pass _ 14 _ refl (eqb-true _ 0 z) in
+    let b = neither (not (eqb (length shares) 16)) (ltb 64 (total (λ n. n) shares)) (a .0) in
+    fresh-sound shares (eqb-true (length shares) 16 (not-false _ (b .0))) (ltb-false 64 (total (λ n. n) shares) (b .1)))
+    (λ z. fresh-sound (replicate 16 0) refl no-shares)
+
+-- ---- any call
+pub step-sound : (p : Prices) {t : Table} → SoundTable t → (c : Call) → SoundTable (step p t c .table)
+unfolding step
+step-sound p s (Begin who awaited reads writes) = begin-keeps p s who awaited reads writes
+step-sound p s (Finish who serial) = finish-keeps p s who serial
+step-sound p s (Recheck who serial) = recheck-keeps p s who serial
+step-sound p s (Scan who) = scan-keeps p s who
+step-sound p s (Open shares) = open-sound shares
+step-sound p s (Grant who amount) = grant-keeps s who amount
+step-sound p s Pick = pick-keeps s
+step-sound p s (Deliver who serial) = deliver-keeps s who serial

@@ -1,0 +1,61 @@
+-- A sound table: what an opening makes and every call keeps. The clauses are those of the sound block of document 02,
+-- item 1, as far as they speak of a table; document 01's rule of promotion stands, so a Waiting entry may have nothing due.
+use Prim.Native.Nat.{ℕ, _≤_, _<_}
+use mathlib.Core.Path.{_≡_}
+use mathlib.Core.Bool.{true, false}
+use mathlib.Core.List.{List, [], _∷_}
+use lib.ListN.{length}
+use Rattle.rules.specs.Lists.{total}
+use Rattle.rules.specs.Records.{WellFormed}
+use Rattle.rules.specs.Request.{Request, size, conflict, isFree, isWaiting, isBlocked}
+use Rattle.rules.specs.Table.{Meter, Table, isTenant, meterOf, placesOf, mostFuel}
+
+-- it holds of each element
+pub data Each {A : Type 0} (P : A → Type 0) : List A → Type 0 where
+  none : Each P []
+  also : {x : A} {xs : List A} → P x → Each P xs → Each P (x ∷ xs)
+
+-- it holds of each two elements, the one ahead named first
+pub data InOrder {A : Type 0} (R : A → A → Type 0) : List A → Type 0 where
+  none : InOrder R []
+  also : {x : A} {xs : List A} → Each (R x) xs → InOrder R xs → InOrder R (x ∷ xs)
+
+-- an entry by itself, where its tenant has been given so many serials
+pub record Fit (given : ℕ → ℕ) (e : Request) : Type 0 where
+  -- "awaited ... keep document 01's limits; due is at most awaited"
+  pub awaited : e .awaited ≤ 15
+  pub due : e .due ≤ e .awaited
+  -- "tenants are 1 to 16"
+  pub tenant : isTenant (e .tenant) ≡ true
+  -- "a tenant's serials rise ... from 1 to those given"
+  pub from-one : 1 ≤ e .serial
+  pub to-given : e .serial ≤ given (e .tenant)
+  -- "a Free entry has nothing due, a Waiting one awaited above 0, a Blocked one n above 0"
+  pub free : isFree (e .mode) ≡ true → e .due ≡ 0
+  pub waiting : isWaiting (e .mode) ≡ true → 0 < e .awaited
+  pub blocked : isBlocked (e .mode) ≡ true → 0 < size e
+  -- "lists keep refusals 3 to 5"
+  pub lists : WellFormed (e .reads) (e .writes)
+
+abbrev pub givenBy : Table → ℕ → ℕ
+givenBy t who = meterOf t who .serials
+
+-- "serials rise from front to back"
+abbrev pub SerialsRise : Request → Request → Type 0
+SerialsRise a e = a .tenant ≡ e .tenant → a .serial < e .serial
+
+-- "no Free or Waiting entry conflicts with one ahead"
+abbrev pub ClearOf : Request → Request → Type 0
+ClearOf a e = isBlocked (e .mode) ≡ false → conflict a e ≡ false
+
+pub record SoundTable (t : Table) : Type 0 where
+  pub sixteen : length (t .meters) ≡ 16
+  -- "shares sum to at most 64"
+  pub shares : total (λ m. m .share) (t .meters) ≤ 64
+  -- "fuel ... keep document 01's limits"
+  pub fuel : Each (λ m. m .fuel ≤ mostFuel) (t .meters)
+  -- "none above its share"
+  pub places : (who : ℕ) → isTenant who ≡ true → placesOf (t .queue) who ≤ meterOf t who .share
+  pub entries : Each (Fit (givenBy t)) (t .queue)
+  pub serials : InOrder SerialsRise (t .queue)
+  pub clear : InOrder ClearOf (t .queue)
