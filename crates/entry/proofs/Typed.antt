@@ -13,7 +13,12 @@ use denote.Plain.{UInt}
 use denote.Array.{Array, each}
 use denote.Shadow.{shadow}
 use denote.Laws.{Is}
-use Rattle.rules.proofs.Tests.{lt-or-ge}
+use mathlib.Core.Bool.{Bool, true}
+use lib.Dec.{eqb}
+use borrow.Author.Tests.{eqb-true}
+use Rattle.rules.specs.Lists.{some}
+use Rattle.rules.specs.Records.{member}
+use Rattle.rules.proofs.Tests.{lt-or-ge, either}
 use Rattle.entry.specs.declared.Entry.{Entry}
 use Rattle.entry.proofs.Entry as entry
 
@@ -56,3 +61,13 @@ few-take n few {xs} b e = ⊎-elim
     let long : length xs ≤ n = omega (arith, b .size) in
     take-all few xs whole ∙ sym (take-all n xs long))
     (lt-or-ge n 8)
+
+small : (n : ℕ) (xs : List ℕ) → ((i : ℕ) → getD xs i 0 < 256) → (k : ℕ) → member k (take n xs) ≡ true → k < 256
+unfolding member some
+small zero xs b k m = let z : _≡_ {A = ℕ} 0 1 = cc in absurd (omega arith)
+small (suc n) [] b k m = let z : _≡_ {A = ℕ} 0 1 = cc in absurd (omega arith)
+small (suc n) (x ∷ xs) b k m = ⊎-elim (λ (e : eqb x k ≡ true). omega (arith, eqb-true x k e, b 0)) (small n xs (λ i. b (suc i)) k) (either (eqb x k) (member k (take n xs)) m)
+
+-- a record of an array of bytes is below 256
+pub bytes-small : (n : ℕ) {xs : List ℕ} → Bytes 8 xs → (k : ℕ) → member k (take n xs) ≡ true → k < 256
+bytes-small n {xs} b k m = small n xs (b .below) k m

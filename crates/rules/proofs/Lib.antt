@@ -16,3 +16,4 @@ pub mod Refusals
 pub mod Keeps
 pub mod Walks
 pub mod Sound
+pub mod Costly

@@ -3,8 +3,6 @@ use Prim.Native.Nat.{ℕ, _+_, _≤_, _<_}
 use mathlib.Core.Path.{_≡_, refl, sym, ap, subst, _∙_}
 use mathlib.Core.Bool.{Bool, true, false, _&&_, _||_, not}
 use mathlib.Core.List.{List, [], _∷_}
-use mathlib.Core.Logic.{⊎-elim}
-use native.Mathlib.Omega.{arith}
 use lib.Dec.{eqb, ltb, leb}
 use lib.ListN.{length, getD}
 use borrow.Author.Tests.{eq-eqb, ltb-false, leb-false, eqb-false, eqb-true, not-false}
@@ -14,7 +12,7 @@ use Rattle.rules.specs.Request.{Request, nobody, size, isNamed, isFree, 
 use Rattle.rules.specs.Table.{Table, meterOf, isTenant, placesOf, mostFuel}
 use Rattle.rules.specs.Prices.{Prices, admission, charge, costly}
 use Rattle.rules.specs.Refusals.{Row, _gives_, firstOf, isDry, standsAt, isAbsent, entryOf, beginRows, finishRows, recheckRows, scanRows, deliverRows, grantRows, openRows}
-use Rattle.rules.proofs.Tests.{both, neither, lt-or-ge}
+use Rattle.rules.proofs.Tests.{both, neither, above-zero}
 use Rattle.rules.proofs.Admission.{Admissible}
 
 -- ---- one row
@@ -50,14 +48,27 @@ begin-passes p t e z =
       awaited = ltb-false 15 (e .awaited) (g .0);
       place = leb-false (m .share) (placesOf (t .queue) (e .tenant)) (h .0);
       serial = leb-false 65535 (m .serials) (i .0);
-      some-fuel = positive (m .fuel) (b .0);
+      some-fuel = above-zero (m .fuel) (eqb-false (m .fuel) 0 (b .0));
       fuel = ltb-false (m .fuel) (admission p e) (j .0);
     }
-  where
-    positive : (n : ℕ) → eqb n 0 ≡ false → 0 < n
-    positive n k = ⊎-elim (λ (h : 0 < n). h) (λ (h : n ≤ 0). absurd (eqb-false n 0 k (omega arith))) (lt-or-ge 0 n)
 
 -- ---- a number that is no tenant is refused with 1, whatever the other rows say
 pub stranger : (who : ℕ) (rows : List Row) → isTenant who ≡ false → firstOf (not (isTenant who) gives 1 ∷ rows) ≡ 1
 unfolding firstOf
 stranger who rows h = rw h refl
+
+-- ---- Grant
+pub grant-passes : (t : Table) (who amount : ℕ) → firstOf (grantRows t who amount) ≡ 0 → (isTenant who ≡ true) × (meterOf t who .fuel + amount ≤ mostFuel)
+unfolding grantRows
+grant-passes t who amount z =
+    let a = pass _ 1 _ refl z in
+    let b = pass _ 13 _ refl (a .1) in
+    (not-false (isTenant who) (a .0), ltb-false mostFuel (meterOf t who .fuel + amount) (b .0))
+
+-- ---- Open
+pub open-passes : (shares : List ℕ) → firstOf (openRows shares) ≡ 0 → (length shares ≡ 16) × (total (λ n. n) shares ≤ 64)
+unfolding openRows
+open-passes shares z =
+    let a = pass _ 14 _ refl z in
+    let b = neither (not (eqb (length shares) 16)) (ltb 64 (total (λ n. n) shares)) (a .0) in
+    (eqb-true (length shares) 16 (not-false (eqb (length shares) 16) (b .0)), ltb-false 64 (total (λ n. n) shares) (b .1))

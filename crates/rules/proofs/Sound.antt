@@ -27,7 +27,7 @@ use Rattle.rules.proofs.Lists.{some-append}
 use Rattle.rules.proofs.Requests.{delivered-as, conflict-size}
 use Rattle.rules.proofs.Meters.{meter-own, sixteen-with}
 use Rattle.rules.proofs.Admission.{Admissible}
-use Rattle.rules.proofs.Refusals.{pass, stranger, free-of-charge, begin-passes}
+use Rattle.rules.proofs.Refusals.{pass, stranger, free-of-charge, begin-passes, grant-passes, open-passes}
 use Rattle.rules.proofs.Order.{each-at, each-map, each-none, each-take, order-ahead}
 use Rattle.rules.proofs.Keeps.{sound-meter, sound-burn, burn-none, fuel-limit, promoted-fit, sound-joined, sound-removed, sound-replaced}
 use Rattle.rules.proofs.Verdicts.{alone-conflicts}
@@ -240,15 +240,14 @@ deliver-keeps {t} s who serial =
     (λ z. s)
 
 -- ---- Grant
+pub grant-sound : {t : Table} → SoundTable t → (who amount : ℕ) → isTenant who ≡ true → meterOf t who .fuel + amount ≤ mostFuel → SoundTable (withMeter t who (granted (meterOf t who) amount))
+grant-sound {t} s who amount h fits = sound-meter s who h (granted (meterOf t who) amount) refl (omega arith) fits
+
 pub grant-keeps : {t : Table} → SoundTable t → (who amount : ℕ) → SoundTable (grantOf t who amount .table)
-unfolding grantOf grantRows
+unfolding grantOf
 grant-keeps {t} s who amount =
     if-cases SoundTable (eqb (firstOf (grantRows t who amount)) 0)
-    (λ z.
-    let a = pass _ 1 _ refl (eqb-true _ 0 z) in
-    let b = pass _ 13 _ refl (a .1) in
-    let fits : meterOf t who .fuel + amount ≤ mostFuel = ltb-false mostFuel (meterOf t who .fuel + amount) (b .0) in
-    sound-meter s who (not-false (isTenant who) (a .0)) (granted (meterOf t who) amount) refl (omega arith) fits)
+    (λ z. let a = grant-passes t who amount (eqb-true _ 0 z) in grant-sound s who amount (a .0) (a .1))
     (λ z. s)
 
 -- ---- Open
@@ -261,7 +260,7 @@ fresh-fuel : (shares : List ℕ) → Each (λ (m : Meter). m .fuel ≤ mostFuel)
 fresh-fuel [] = Each.none
 fresh-fuel (x ∷ shares) = let none : 0 ≤ mostFuel = omega arith in Each.also none (fresh-fuel shares)
 
-fresh-sound : (shares : List ℕ) → length shares ≡ 16 → total (λ n. n) shares ≤ 64 → SoundTable (fresh shares)
+pub fresh-sound : (shares : List ℕ) → length shares ≡ 16 → total (λ n. n) shares ≤ 64 → SoundTable (fresh shares)
 unfolding fresh countIf
 fresh-sound shares six sum = record {
   sixteen = length-map shares newMeter ∙ six;
@@ -277,15 +276,16 @@ no-shares : total (λ (n : ℕ). n) (replicate 16 0) ≤ 64
 unfolding total
 no-shares = omega arith
 
+-- refusal 14's table
+pub shut-sound : SoundTable (fresh (replicate 16 0))
+shut-sound = fresh-sound (replicate 16 0) refl no-shares
+
 pub open-sound : (shares : List ℕ) → SoundTable (openOf shares .table)
-unfolding openOf openRows
+unfolding openOf
 open-sound shares =
     if-cases SoundTable (eqb (firstOf (openRows shares)) 0)
-    (λ z.
-    let a = pass _ 14 _ refl (eqb-true _ 0 z) in
-    let b = neither (not (eqb (length shares) 16)) (ltb 64 (total (λ n. n) shares)) (a .0) in
-    fresh-sound shares (eqb-true (length shares) 16 (not-false _ (b .0))) (ltb-false 64 (total (λ n. n) shares) (b .1)))
-    (λ z. fresh-sound (replicate 16 0) refl no-shares)
+    (λ z. let a = open-passes shares (eqb-true _ 0 z) in fresh-sound shares (a .0) (a .1))
+    (λ z. shut-sound)
 
 -- ---- any call
 pub step-sound : (p : Prices) {t : Table} → SoundTable t → (c : Call) → SoundTable (step p t c .table)

@@ -8,7 +8,7 @@ use native.Mathlib.Omega.{arith}
 use lib.Dec.{eqb, ltb}
 use lib.ListN.{length, getD, take, drop, length-take, drop-of-length-le}
 use lib.Seq.{drop-cons, getD-take, take-length}
-use Rattle.rules.specs.Lists.{some, every}
+use Rattle.rules.specs.Lists.{some, every, total}
 use Rattle.rules.specs.Records.{member, meets, rising, risingPast}
 
 module _ {A : Type 0} where
@@ -50,6 +50,14 @@ module _ {A : Type 0} where
   pub every-part-end : (f : A → Bool) (l : List A) (n i : ℕ) → n ≤ i → every f (drop i (take n l)) ≡ true
   unfolding every
   every-part-end f l n i h = ap (every f) (part-end l n i h)
+
+  pub total-step : (f : A → ℕ) (l : List A) (i : ℕ) (d : A) → i < length l → total f (drop i l) ≡ f (getD l i d) + total f (drop (i + 1) l)
+  unfolding total
+  total-step f l i d h = ap (total f) (list-step l i d h)
+
+  pub total-end : (f : A → ℕ) (l : List A) (i : ℕ) → length l ≤ i → total f (drop i l) ≡ 0
+  unfolding total
+  total-end f l i h = ap (total f) (drop-of-length-le l h)
 
 -- ---- records
 pub member-step : (r : ℕ) (l : List ℕ) (i : ℕ) → i < length l → member r (drop i l) ≡ (eqb (getD l i 0) r || member r (drop (i + 1) l))

@@ -2,7 +2,7 @@
 use Prim.Native.Nat.{ℕ, suc, _+_, _≤_, _<_}
 use mathlib.Core.Path.{_≡_, refl, sym}
 use mathlib.Core.Bool.{Bool, true, false, _&&_, _||_, not}
-use mathlib.Core.Logic.{_⊎_, inl, inr}
+use mathlib.Core.Logic.{_⊎_, inl, inr, ⊎-elim}
 use native.Mathlib.Omega.{arith}
 use lib.Dec.{eqb, ltb}
 use borrow.Author.Tests.{eqb-true, eqb-false, ltb-true, ltb-false, eq-eqb, ne-eqb, lt-ltb, le-ltb}
@@ -94,6 +94,9 @@ lt-go m n false e = inr (ltb-false m n e)
 
 pub lt-or-ge : (m n : ℕ) → (m < n) ⊎ (n ≤ m)
 lt-or-ge m n = lt-go m n (ltb m n) refl
+
+pub above-zero : (n : ℕ) → (n ≡ 0 → ⊥) → 0 < n
+above-zero n h = ⊎-elim (λ (b : 0 < n). b) (λ (b : n ≤ 0). absurd (h (omega arith))) (lt-or-ge 0 n)
 
 -- above 0, with one's own count and without it
 pub above-one : (n : ℕ) → ltb 1 (n + 1) ≡ ltb 0 n

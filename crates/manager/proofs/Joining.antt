@@ -1,0 +1,85 @@
+-- A request that joins: what the counters, its own count included, tell of it, and the table with it at the back.
+use Prim.Native.Nat.{ℕ, _+_, _-_, _≤_, _<_}
+use mathlib.Core.Path.{_≡_, refl, sym, ap, subst, _∙_}
+use mathlib.Core.Bool.{Bool, true, false, _&&_, _||_}
+use mathlib.Core.List.{List, [], _∷_, _++_, map}
+use native.Mathlib.Omega.{arith}
+use lib.Dec.{eqb, ltb}
+use lib.ListN.{length, getD, take, set}
+use lib.Seq.{set-set}
+use Rattle.rules.specs.Lists.{if_then_else_, some, every}
+use Rattle.rules.specs.Records.{member, WellFormed}
+use Rattle.rules.specs.Request.{Request, conflictsAny, promoted, admitted}
+use Rattle.rules.specs.Table.{Meter as LawMeter, Table, isTenant, meterOf, withMeter, spent, numbered, burn}
+use Rattle.rules.specs.Counters.{cx, cs, figure2, alone}
+use Rattle.rules.specs.Calls.{joined}
+use Rattle.rules.proofs.Tests.{if-either}
+use Rattle.rules.proofs.Lists.{some-in, every-in}
+use Rattle.rules.proofs.Meters.{Sixteen, meter-own}
+use Rattle.rules.proofs.Mapped.{map-set}
+use Rattle.rules.proofs.Verdicts.{figure2-conflicts}
+use Rattle.entry.specs.declared.Entry.{Entry}
+use Rattle.entry.specs.Entry.{request, Stands}
+use Rattle.entry.proofs.Typed.{Lists, bytes-small}
+use Rattle.counters.specs.Counters.{at, Counts}
+use Rattle.meter.specs.declared.Meter.{Meter}
+use Rattle.meter.specs.View.{meterView}
+use Rattle.manager.specs.declared.State.{State}
+use Rattle.manager.specs.State.{view, Becomes}
+
+-- ---- the verdicts: the arrays say of an entry's records what the counts over the queue say
+module _ {x y : List ℕ} {l : List Request} (w : Counts (λ a. a .writes) x l) (r : Counts (λ a. a .reads) y l) (e : Entry) (b : Lists e) where
+  at-read : (k : ℕ) → member k (request e .reads) ≡ true → at x k ≡ cx l k
+  at-read k m = w .each k (bytes-small (e .nr) (b .reads) k m)
+
+  at-write : (k : ℕ) → member k (request e .writes) ≡ true → (at x k ≡ cx l k) × (at y k ≡ cs l k)
+  at-write k m = let small = bytes-small (e .nw) (b .writes) k m in (w .each k small, r .each k small)
+
+  pub figure2-told : figure2 (at x) (at y) (request e) ≡ figure2 (cx l) (cs l) (request e)
+  unfolding figure2
+  figure2-told =
+      let p : some (λ k. ltb 0 (at x k)) (request e .reads) ≡ some (λ k. ltb 0 (cx l k)) (request e .reads) = some-in (request e .reads) (λ k m. ap (ltb 0) (at-read k m)) in
+      let q : some (λ k. ltb 1 (at x k) || ltb 0 (at y k)) (request e .writes) ≡ some (λ k. ltb 1 (cx l k) || ltb 0 (cs l k)) (request e .writes) = some-in (request e .writes) (λ k m. let h = at-write k m in cc (h .0, h .1)) in
+      cc (p, q)
+
+  pub alone-told : alone (at x) (at y) (request e) ≡ alone (cx l) (cs l) (request e)
+  unfolding alone
+  alone-told =
+      let p : every (λ k. eqb (at x k) 0) (request e .reads) ≡ every (λ k. eqb (cx l k) 0) (request e .reads) = every-in (request e .reads) (λ k m. ap (λ (n : ℕ). eqb n 0) (at-read k m)) in
+      let q : every (λ k. eqb (at x k) 1 && eqb (at y k) 0) (request e .writes) ≡ every (λ k. eqb (cx l k) 1 && eqb (cs l k) 0) (request e .writes) = every-in (request e .writes) (λ k m. let h = at-write k m in cc (h .0, h .1)) in
+      cc (p, q)
+
+-- ---- the entry that joins
+-- the lists stay as they were asked
+pub admitted-reads : (q : List Request) (e : Request) → admitted q e .reads ≡ e .reads
+unfolding admitted promoted
+admitted-reads q e = if-either (λ (a : Request). a .reads ≡ e .reads) (conflictsAny q e) refl refl
+
+pub admitted-writes : (q : List Request) (e : Request) → admitted q e .writes ≡ e .writes
+unfolding admitted promoted
+admitted-writes q e = if-either (λ (a : Request). a .writes ≡ e .writes) (conflictsAny q e) refl refl
+
+pub admitted-tenant : (q : List Request) (e : Request) → admitted q e .tenant ≡ e .tenant
+unfolding admitted promoted
+admitted-tenant q e = if-either (λ (a : Request). a .tenant ≡ e .tenant) (conflictsAny q e) refl refl
+
+-- figure 2 by the counters with its own count: it is the entry that the law book admits
+pub admitted-stands : (q : List Request) {x y : List ℕ} {e joins : Entry} → Counts (λ a. a .writes) x (q ++ request e ∷ []) → Counts (λ a. a .reads) y (q ++ request e ∷ []) → Lists e → WellFormed (request e .reads) (request e .writes) → Stands (if figure2 (at x) (at y) (request e) then request e else promoted (request e)) joins → Stands (admitted q (request e)) joins
+unfolding admitted
+admitted-stands q {x} {y} {e} {joins} w r b f h =
+    let told : figure2 (at x) (at y) (request e) ≡ conflictsAny q (request e) = figure2-told w r e b ∙ figure2-conflicts q (request e) f in
+    subst (λ (t : Bool). Stands (if t then request e else promoted (request e)) joins) told h
+
+-- ---- the meter: the serial is given, then the price is paid
+own-meters : (s : State) → Sixteen (view s) → (e : Request) → isTenant (e .tenant) ≡ true → (cost : ℕ) (paid : Meter) → meterView paid ≡ spent (numbered (meterOf (view s) (e .tenant))) cost → burn (e .tenant) cost (joined (view s) e) ≡ record { meters = map meterView (set (s .meters) (e .tenant - 1) paid); queue = view s .queue ++ e ∷ [] }
+own-meters s six e h cost paid is =
+    let m = numbered (meterOf (view s) (e .tenant)) in
+    let own : meterOf (withMeter (view s) (e .tenant) m) (e .tenant) ≡ m = meter-own (view s) six (e .tenant) h m in
+    let twice : set (set (view s .meters) (e .tenant - 1) m) (e .tenant - 1) (spent m cost) ≡ set (view s .meters) (e .tenant - 1) (spent m cost) = set-set (view s .meters) (e .tenant - 1) m (spent m cost) in
+    let once : map meterView (set (s .meters) (e .tenant - 1) paid) ≡ set (view s .meters) (e .tenant - 1) (spent m cost) = map-set meterView (s .meters) (e .tenant - 1) paid ∙ ap (set (view s .meters) (e .tenant - 1)) is in
+    rw (own, twice, once)
+
+-- the same for an entry of a tenant
+pub joined-meters : (s : State) → Sixteen (view s) → (e : Request) (who : ℕ) → e .tenant ≡ who → isTenant who ≡ true → (cost : ℕ) (paid : Meter) → meterView paid ≡ spent (numbered (meterOf (view s) who)) cost → burn who cost (joined (view s) e) ≡ record { meters = map meterView (set (s .meters) (who - 1) paid); queue = view s .queue ++ e ∷ [] }
+joined-meters s six e who own =
+    subst (λ (w : ℕ). isTenant w ≡ true → (cost : ℕ) (paid : Meter) → meterView paid ≡ spent (numbered (meterOf (view s) w)) cost → burn w cost (joined (view s) e) ≡ record { meters = map meterView (set (s .meters) (w - 1) paid); queue = view s .queue ++ e ∷ [] }) own (own-meters s six e)

@@ -1,0 +1,6 @@
+pub mod Views
+pub mod Entries
+pub mod Done
+pub mod Opening
+pub mod Typed
+pub mod Joining

@@ -1,0 +1,26 @@
+// The lock manager: eight calls on a state by value. Each answers with the state after it, its answer and the units burnt,
+// and its contract says that these are the law book's.
+use meter::Meter;
+use queue::Queue;
+use rules::Answer;
+
+pub mod begin;
+pub mod grant;
+pub mod meters;
+pub mod open;
+pub mod places;
+pub mod refusal;
+
+// The counters Cx and Cs of the records, the meters of the tenants 1 to 16, and the queue.
+pub struct State {
+    pub cx: [u8; 256],
+    pub cs: [u8; 256],
+    pub meters: [Meter; 16],
+    pub queue: Queue,
+}
+
+pub struct Outcome {
+    pub state: State,
+    pub answer: Answer,
+    pub burnt: u32,
+}
