@@ -1,0 +1,55 @@
+-- Every promise of demand 3, over any fair price list and at document 01's.
+use mathlib.Core.Path.{refl}
+use native.Mathlib.Omega.{arith}
+use Rattle.rules.specs.Prices.{Prices, clause9, looks}
+use Rattle.rules.specs.Calls.{search}
+use Rattle.promises.specs.Promises.{Fair, Promises, AtClause9, SearchPrice9, SearchMost9}
+use Rattle.promises.proofs.Refusals.{refuses, refuses9, refuses-open}
+use Rattle.promises.proofs.Runs.{all-sound}
+use Rattle.promises.proofs.Fuel.{burns-price, burns-prices, own-call, other-call, balance}
+use Rattle.promises.proofs.Calls.{not-dry}
+use Rattle.promises.proofs.Search.{search-price, search-most, search-promotes, search-ends, search-nothing, search-names, search-cut}
+use Rattle.promises.proofs.Admitted.{admits, finishes, picks}
+
+pub promises : {p : Prices} → Fair p → Promises p
+promises {p} f = record {
+  burns-price = burns-price p;
+  burns-prices = burns-prices p;
+  own-call = own-call f;
+  other-call = other-call f;
+  balance = balance f;
+  search-price = search-price p;
+  search-most = search-most p;
+  not-dry = not-dry f;
+  admits = admits f;
+  finishes = finishes f;
+  refuses = refuses p;
+  refuses-open = refuses-open;
+  search-promotes = search-promotes f;
+  search-ends = search-ends f;
+  search-nothing = search-nothing p;
+  search-names = search-names p;
+  search-cut = search-cut p;
+  picks = picks;
+  all-sound = all-sound p;
+}
+
+pub clause9-fair : Fair clause9
+clause9-fair = record {
+  request = λ n. omega arith;
+  finish = refl;
+  search = refl;
+  recheck = λ n. omega arith;
+  refused = omega arith;
+}
+
+-- 3 at document 01's prices
+pub search-price9 : SearchPrice9
+unfolding looks
+search-price9 = search-price clause9
+
+pub search-most9 : SearchMost9
+search-most9 t who s = omega (arith, search-most clause9 t who 17 s (λ n small. omega arith))
+
+pub at-clause9 : AtClause9
+at-clause9 = record { all = promises clause9-fair; search-price = search-price9; search-most = search-most9; refuses = refuses9 }
