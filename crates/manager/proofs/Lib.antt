@@ -4,3 +4,5 @@ pub mod Done
 pub mod Opening
 pub mod Typed
 pub mod Joining
+pub mod Lookup
+pub mod Front

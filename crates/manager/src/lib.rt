@@ -5,10 +5,14 @@ use queue::Queue;
 use rules::Answer;
 
 pub mod begin;
+pub mod deliver;
+pub mod finish;
 pub mod grant;
 pub mod meters;
 pub mod open;
+pub mod pick;
 pub mod places;
+pub mod recheck;
 pub mod refusal;
 
 // The counters Cx and Cs of the records, the meters of the tenants 1 to 16, and the queue.

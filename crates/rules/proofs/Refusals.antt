@@ -72,3 +72,35 @@ open-passes shares z =
     let a = pass _ 14 _ refl z in
     let b = neither (not (eqb (length shares) 16)) (ltb 64 (total (λ n. n) shares)) (a .0) in
     (eqb-true (length shares) 16 (not-false (eqb (length shares) 16) (b .0)), ltb-false 64 (total (λ n. n) shares) (b .1))
+
+-- ---- Finish, Recheck, Deliver: the entry is there, in the state that the call asks for
+pub finish-passes : (t : Table) (who serial : ℕ) → firstOf (finishRows t who serial) ≡ 0 → (isTenant who ≡ true) × (isAbsent who serial (t .queue) ≡ false) × (isFree (entryOf who serial (t .queue) .mode) ≡ true)
+unfolding finishRows
+finish-passes t who serial z =
+    let a = pass _ 1 _ refl z in
+    let b = pass _ 2 _ refl (a .1) in
+    let c = pass _ 10 _ refl (b .1) in
+    let d = pass _ 11 _ refl (c .1) in
+    (not-false (isTenant who) (a .0), c .0, not-false (isFree (entryOf who serial (t .queue) .mode)) (d .0))
+
+pub recheck-passes : (p : Prices) (t : Table) (who serial : ℕ) → firstOf (recheckRows p t who serial) ≡ 0 → (isTenant who ≡ true) × (isAbsent who serial (t .queue) ≡ false) × (p .recheck (size (entryOf who serial (t .queue))) ≤ meterOf t who .fuel)
+unfolding recheckRows
+recheck-passes p t who serial z =
+    let a = pass _ 1 _ refl z in
+    let b = pass _ 2 _ refl (a .1) in
+    let c = pass _ 10 _ refl (b .1) in
+    let d = pass _ 11 _ refl (c .1) in
+    let e = pass _ 9 _ refl (d .1) in
+    (not-false (isTenant who) (a .0), c .0, ltb-false (meterOf t who .fuel) (p .recheck (size (entryOf who serial (t .queue)))) (e .0))
+
+pub deliver-passes : (t : Table) (who serial : ℕ) → firstOf (deliverRows t who serial) ≡ 0 → (isAbsent who serial (t .queue) ≡ false) × (eqb (entryOf who serial (t .queue) .due) 0 ≡ false)
+unfolding deliverRows
+deliver-passes t who serial z =
+    let a = pass _ 1 _ refl z in
+    let b = pass _ 10 _ refl (a .1) in
+    let c = pass _ 12 _ refl (b .1) in
+    (b .0, c .0)
+
+-- the place of an entry that is there
+pub here : (who serial : ℕ) (q : List Request) → isAbsent who serial q ≡ false → standsAt who serial q < length q
+here who serial q h = leb-false (length q) (standsAt who serial q) h

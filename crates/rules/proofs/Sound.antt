@@ -27,7 +27,7 @@ use Rattle.rules.proofs.Lists.{some-append}
 use Rattle.rules.proofs.Requests.{delivered-as, conflict-size}
 use Rattle.rules.proofs.Meters.{meter-own, sixteen-with}
 use Rattle.rules.proofs.Admission.{Admissible}
-use Rattle.rules.proofs.Refusals.{pass, stranger, free-of-charge, begin-passes, grant-passes, open-passes}
+use Rattle.rules.proofs.Refusals.{stranger, free-of-charge, begin-passes, grant-passes, open-passes, finish-passes, recheck-passes, deliver-passes, here}
 use Rattle.rules.proofs.Order.{each-at, each-map, each-none, each-take, order-ahead}
 use Rattle.rules.proofs.Keeps.{sound-meter, sound-burn, burn-none, fuel-limit, promoted-fit, sound-joined, sound-removed, sound-replaced}
 use Rattle.rules.proofs.Verdicts.{alone-conflicts}
@@ -99,20 +99,12 @@ begin-keeps p {t} s who awaited reads writes =
     tenant-sound p s who (firstOf (beginRows p t e)) (admission p e) (joined t (admitted (t .queue) e)) (stranger who _)
     (λ z. begin-sound p s who awaited reads writes (begin-passes p t e z))
 
--- ---- an entry that is there
-here : (who serial : ℕ) (q : List Request) → isAbsent who serial q ≡ false → standsAt who serial q < length q
-here who serial q h = leb-false (length q) (standsAt who serial q) h
-
 -- ---- Finish
 pub finish-keeps : (p : Prices) {t : Table} → SoundTable t → (who serial : ℕ) → SoundTable (finishOf p t who serial .table)
 unfolding finishOf finishRows
 finish-keeps p {t} s who serial =
     tenant-sound p s who (firstOf (finishRows t who serial)) (p .finish) _ (stranger who _)
-    (λ z.
-    let a = pass _ 1 _ refl z in
-    let b = pass _ 2 _ refl (a .1) in
-    let c = pass _ 10 _ refl (b .1) in
-    sound-removed s (standsAt who serial (t .queue)) (here who serial (t .queue) (c .0)))
+    (λ z. sound-removed s (standsAt who serial (t .queue)) (here who serial (t .queue) (finish-passes t who serial z .1)))
 
 -- ---- a delivered answer
 delivered-fit : (given : ℕ → ℕ) (e : Request) → Fit given e → eqb (e .due) 0 ≡ false → Fit given (delivered e)
@@ -177,24 +169,22 @@ module _ {t : Table} (s : SoundTable t) (at : ℕ) (there : at < length (t .queu
       (each-map (λ a (h : ClearOf a e). λ runs. rw same (h (sym (delivered-blocked e) ∙ runs))) (order-ahead at nobody there (s .clear)))
 
 -- ---- Recheck
+pub recheck-sound : {t : Table} → SoundTable t → (who serial : ℕ) → isAbsent who serial (t .queue) ≡ false → alone (cx (t .queue)) (cs (t .queue)) (entryOf who serial (t .queue)) ≡ true → SoundTable (withEntry t (standsAt who serial (t .queue)) (promoted (entryOf who serial (t .queue))))
+recheck-sound {t} s who serial present clear =
+    let q = t .queue in
+    let at = standsAt who serial q in
+    let e = entryOf who serial q in
+    let there = here who serial q present in
+    let lists = each-at (s .entries) at nobody there .lists in
+    let none : conflictsAny (withoutEntry at q) e ≡ false = not-true _ (sym (alone-conflicts q at there lists) ∙ clear) in
+    let ahead = neither (conflictsAny (take at q) e) (conflictsAny (drop (at + 1) q) e) (sym (some-append (λ x. conflict x e) (take at q) (drop (at + 1) q)) ∙ none) in
+    promotion-sound s at there (each-none (λ x. conflict x e) (take at q) (ahead .0))
+
 pub recheck-keeps : (p : Prices) {t : Table} → SoundTable t → (who serial : ℕ) → SoundTable (recheckOf p t who serial .table)
 unfolding recheckOf recheckRows
 recheck-keeps p {t} s who serial =
     tenant-sound p s who (firstOf (recheckRows p t who serial)) _ _ (stranger who _)
-    (λ z.
-    let a = pass _ 1 _ refl z in
-    let b = pass _ 2 _ refl (a .1) in
-    let c = pass _ 10 _ refl (b .1) in
-    let at = standsAt who serial (t .queue) in
-    let e = entryOf who serial (t .queue) in
-    let there = here who serial (t .queue) (c .0) in
-    let lists = each-at (s .entries) at nobody there .lists in
-    if-cases SoundTable (alone (cx (t .queue)) (cs (t .queue)) e)
-    (λ (clear : alone (cx (t .queue)) (cs (t .queue)) e ≡ true).
-    let none : conflictsAny (withoutEntry at (t .queue)) e ≡ false = not-true _ (sym (alone-conflicts (t .queue) at there lists) ∙ clear) in
-    let ahead = neither (conflictsAny (take at (t .queue)) e) (conflictsAny (drop (at + 1) (t .queue)) e) (sym (some-append (λ x. conflict x e) (take at (t .queue)) (drop (at + 1) (t .queue))) ∙ none) in
-    promotion-sound s at there (each-none (λ x. conflict x e) (take at (t .queue)) (ahead .0)))
-    (λ still. s))
+    (λ z. if-cases SoundTable (alone (cx (t .queue)) (cs (t .queue)) (entryOf who serial (t .queue))) (recheck-sound s who serial (recheck-passes p t who serial z .1)) (λ still. s))
 
 -- ---- a search, and Pick: where an entry is found, nothing ahead of it conflicts
 found-sound : {t : Table} → SoundTable t → (end : End) → ((at : ℕ) → end ≡ found at → (at < length (t .queue)) × (conflictsAny (take at (t .queue)) (getD (t .queue) at nobody) ≡ false)) → SoundTable (found-table t end)
@@ -229,14 +219,12 @@ pick-keeps {t} s = found-sound s (pickEnd (t .queue)) (front-found (t .queue))
 
 -- ---- Deliver
 pub deliver-keeps : {t : Table} → SoundTable t → (who serial : ℕ) → SoundTable (deliverOf t who serial .table)
-unfolding deliverOf deliverRows
+unfolding deliverOf
 deliver-keeps {t} s who serial =
     if-cases SoundTable (eqb (firstOf (deliverRows t who serial)) 0)
     (λ z.
-    let a = pass _ 1 _ refl (eqb-true _ 0 z) in
-    let b = pass _ 10 _ refl (a .1) in
-    let c = pass _ 12 _ refl (b .1) in
-    delivery-sound s (standsAt who serial (t .queue)) (here who serial (t .queue) (b .0)) (c .0))
+    let a = deliver-passes t who serial (eqb-true _ 0 z) in
+    delivery-sound s (standsAt who serial (t .queue)) (here who serial (t .queue) (a .0)) (a .1))
     (λ z. s)
 
 -- ---- Grant
