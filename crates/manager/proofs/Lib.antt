@@ -6,3 +6,5 @@ pub mod Typed
 pub mod Joining
 pub mod Lookup
 pub mod Front
+pub mod Walking
+pub mod Searched

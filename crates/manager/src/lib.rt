@@ -14,6 +14,7 @@ pub mod pick;
 pub mod places;
 pub mod recheck;
 pub mod refusal;
+pub mod scan;
 
 // The counters Cx and Cs of the records, the meters of the tenants 1 to 16, and the queue.
 pub struct State {

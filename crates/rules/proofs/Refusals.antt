@@ -104,3 +104,11 @@ deliver-passes t who serial z =
 -- the place of an entry that is there
 pub here : (who serial : ℕ) (q : List Request) → isAbsent who serial q ≡ false → standsAt who serial q < length q
 here who serial q h = leb-false (length q) (standsAt who serial q) h
+
+-- ---- Scan
+pub scan-passes : (t : Table) (who : ℕ) → firstOf (scanRows t who) ≡ 0 → (isTenant who ≡ true) × (0 < meterOf t who .fuel)
+unfolding scanRows
+scan-passes t who z =
+    let a = pass _ 1 _ refl z in
+    let b = pass _ 2 _ refl (a .1) in
+    (not-false (isTenant who) (a .0), above-zero (meterOf t who .fuel) (eqb-false (meterOf t who .fuel) 0 (b .0)))

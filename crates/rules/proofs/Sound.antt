@@ -194,14 +194,18 @@ found-sound {t} s (found at) h =
 found-sound s nothing h = s
 found-sound s short h = s
 
+-- what the search of a tenant finds may run
+pub scan-sound : (p : Prices) {t : Table} → SoundTable t → (who : ℕ) → SoundTable (found-table t (search p t who .end))
+scan-sound p {t} s who =
+    found-sound s (search p t who .end)
+    (λ at e.
+    let stop = walk-stops p who (meterOf t who .fuel - p .search) [] (t .queue) at e in
+    (stop .there, stop-clear stop))
+
 pub scan-keeps : (p : Prices) {t : Table} → SoundTable t → (who : ℕ) → SoundTable (scanOf p t who .table)
 unfolding scanOf scanRows
 scan-keeps p {t} s who =
-    tenant-sound p s who (firstOf (scanRows t who)) _ _ (stranger who _)
-    (λ z. found-sound s (search p t who .end)
-    (λ at e.
-    let stop = walk-stops p who (meterOf t who .fuel - p .search) [] (t .queue) at e in
-    (stop .there, stop-clear stop)))
+    tenant-sound p s who (firstOf (scanRows t who)) _ _ (stranger who _) (λ z. scan-sound p s who)
 
 -- the front has nothing ahead
 front-found : (q : List Request) (at : ℕ) → pickEnd q ≡ found at → (at < length q) × (conflictsAny (take at q) (getD q at nobody) ≡ false)
