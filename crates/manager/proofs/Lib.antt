@@ -8,3 +8,6 @@ pub mod Lookup
 pub mod Front
 pub mod Walking
 pub mod Searched
+pub mod Unique
+pub mod Agreement
+pub mod Runs

@@ -31,7 +31,7 @@ pub record SameMaps (a b : Maps) : Type 0 where
   pub written : (k : ℕ) → a .written k ≡ b .written k
   pub read : (k : ℕ) → a .read k ≡ b .read k
 
-clear-same : {a b : Maps} → SameMaps a b → (e : Request) → clearBy a e ≡ clearBy b e
+pub clear-same : {a b : Maps} → SameMaps a b → (e : Request) → clearBy a e ≡ clearBy b e
 unfolding clearBy
 clear-same {a} {b} s e =
     let r : some (a .written) (e .reads) ≡ some (b .written) (e .reads) = some-cong (e .reads) (s .written) in
@@ -44,7 +44,7 @@ unfolding mapsOver
 over-last m [] e = refl
 over-last m (a ∷ q) e = over-last (mapped m a) q e
 
-maps-more : {written read w r : List ℕ} (q : List Request) (e : Request) → SameMaps (mapsOf written read) (mapsOver noRecords q) → Grown written (e .writes) w → Grown read (e .reads) r → SameMaps (mapsOf w r) (mapsOver noRecords (q ++ e ∷ []))
+pub maps-more : {written read w r : List ℕ} (q : List Request) (e : Request) → SameMaps (mapsOf written read) (mapsOver noRecords q) → Grown written (e .writes) w → Grown read (e .reads) r → SameMaps (mapsOf w r) (mapsOver noRecords (q ++ e ∷ []))
 maps-more q e s g h =
     rw (over-last noRecords q e)
     (record { written = λ k. g .each k ∙ ap (λ (b : Bool). b || member k (e .writes)) (s .written k); read = λ k. h .each k ∙ ap (λ (b : Bool). b || member k (e .reads)) (s .read k) })

@@ -1,0 +1,51 @@
+-- A run of the code: real calls one after the other, each on the state that the one before gave back, and each with a result
+-- that its contract allows.
+use mathlib.Core.List.{List, [], _∷_, map}
+use Rattle.rules.specs.Lists.{if_then_else_}
+use Rattle.rules.specs.Table.{Table}
+use Rattle.rules.specs.Prices.{Prices, clause9}
+use Rattle.rules.specs.Calls.{Outcome as LawOutcome}
+use Rattle.rules.specs.Runs.{Call, Step, Run, step, isOpen}
+use Rattle.manager.specs.declared.State.{State}
+use Rattle.manager.specs.declared.Outcome.{Outcome}
+use Rattle.manager.specs.State.{view, Did}
+
+-- a call as the code made it: the state that it was given, the call, and what it gave back
+pub record CodeStep : Type 0 where
+  pub met : State
+  pub call : Call
+  pub outcome : Outcome
+
+-- the state now, and the steps since the last opening, the latest first: as the law book's Run
+pub record CodeRun : Type 0 where
+  pub state : State
+  pub steps : List CodeStep
+
+abbrev pub codeOpened : Outcome → CodeRun
+codeOpened r = record { state = r .state; steps = [] }
+
+abbrev pub codeAfter : CodeRun → Call → Outcome → CodeRun
+codeAfter run c r = record {
+  state = r .state;
+  steps = if isOpen c then [] else (record { met = run .state; call = c; outcome = r } ∷ run .steps);
+}
+
+-- from one run to another by these calls, which gave these outcomes: of each, the contract holds
+pub data Ran : CodeRun → List Call → List Outcome → CodeRun → Type 0 where
+  uncalled : {run : CodeRun} → Ran run [] [] run
+  called : {run last : CodeRun} {cs : List Call} {rs : List Outcome} (c : Call) (r : Outcome) → Did r (step clause9 (view (run .state)) c) → Ran (codeAfter run c r) cs rs last → Ran run (c ∷ cs) (r ∷ rs) last
+
+-- ---- how the law book sees the same: through the view
+abbrev pub seen : Outcome → LawOutcome
+seen r = record { table = view (r .state); answer = r .answer; burnt = r .burnt }
+
+abbrev pub seenStep : CodeStep → Step
+seenStep s = record { met = view (s .met); call = s .call; outcome = seen (s .outcome) }
+
+abbrev pub seenRun : CodeRun → Run
+seenRun run = record { table = view (run .state); steps = map seenStep (run .steps) }
+
+-- what the law book's calls give one after the other, openings included
+unfoldable pub outcomesOf : Prices → Table → List Call → List LawOutcome
+outcomesOf p t [] = []
+outcomesOf p t (c ∷ cs) = step p t c ∷ outcomesOf p (step p t c .table) cs
