@@ -8,12 +8,12 @@ pub mod begin;
 pub mod deliver;
 pub mod finish;
 pub mod grant;
-pub mod meters;
+mod meters;
 pub mod open;
 pub mod pick;
-pub mod places;
+mod places;
 pub mod recheck;
-pub mod refusal;
+mod refusal;
 pub mod scan;
 
 // The counters Cx and Cs of the records, the meters of the tenants 1 to 16, and the queue.
