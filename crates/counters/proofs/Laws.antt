@@ -12,7 +12,7 @@ use Rattle.rules.specs.Records.{member, rising, risingPast}
 use Rattle.rules.specs.Request.{Request, nobody}
 use Rattle.rules.proofs.Tests.{one, both}
 use Rattle.rules.proofs.Lists.{count-le, count-last, count-without}
-use Rattle.counters.specs.Counters.{at, occurs, Raised, Under, Stocked, Counts}
+use Rattle.counters.specs.Counters.{occurs, Raised, Under, Stocked, Counts}
 
 -- ---- a rising list holds a record once
 past-none : (b k : ℕ) (xs : List ℕ) → risingPast b xs ≡ true → k ≤ b → occurs k xs ≡ 0

@@ -1,13 +1,13 @@
 -- Counters after a loop has passed the first i records of a list: each has changed by how often its record stood there.
 use Prim.Native.Nat.{ℕ, zero, suc, _+_, _-_, _≤_, _<_}
 use mathlib.Core.Path.{_≡_, refl, sym, ap, _∙_}
-use mathlib.Core.List.{List, [], _∷_, _++_}
+use mathlib.Core.List.{List, [], _∷_}
 use native.Mathlib.Nat.{not-suc-le-zero, le-of-suc-le-suc}
 use native.Mathlib.Numerals.{add-one}
 use native.Mathlib.Omega.{arith}
 use lib.Dec.{eqb, eqb·zero-suc, eqb·suc-zero, eqb·suc-suc}
-use lib.ListN.{length, getD, take, drop, set, length-set, take-append-drop}
-use lib.Seq.{take-suc, take-all, take-take}
+use lib.ListN.{length, getD, take, drop, set, take-append-drop}
+use lib.Seq.{take-suc, take-take}
 use borrow.Author.Tests.{eq-eqb}
 use Rattle.rules.specs.Lists.{countIf}
 use Rattle.rules.proofs.Tests.{one}

@@ -3,7 +3,7 @@
 ghost use mathlib.Core.Path.{_≡_};
 ghost use Prim.Native.Nat.{_≤_, _<_};
 ghost use lib.Dec.{eqb, ltb};
-ghost use lib.ListN.{take, getD};
+ghost use lib.ListN.{take};
 ghost use Rattle.rules.specs.Lists.{some, every};
 ghost use Rattle.rules.specs.Counters.{figure2, alone as aloneBy};
 ghost use Rattle.entry.specs.Entry.{request};

@@ -1,6 +1,6 @@
 -- Two requests conflict where two of their touches clash: the test by pairs of records is the law book's by lists.
 use Prim.Native.Nat.{ℕ, zero, suc, _+_, _-_, _≤_, _<_, min}
-use mathlib.Core.Path.{_≡_, refl, sym, ap, _∙_}
+use mathlib.Core.Path.{_≡_, refl, ap, _∙_}
 use mathlib.Core.Bool.{Bool, true, false, _||_, _&&_}
 use mathlib.Core.List.{List, [], _∷_, _++_}
 use mathlib.Core.Logic.{⊎-elim}
@@ -13,7 +13,7 @@ use borrow.Author.Tests.{lt-ltb, le-ltb}
 use Rattle.rules.specs.Lists.{some}
 use Rattle.rules.specs.Records.{member, meets}
 use Rattle.rules.specs.Request.{Request, size, conflict}
-use Rattle.rules.proofs.Tests.{or-assoc, or-swap, or-comm, and-false, and-true, lt-or-ge}
+use Rattle.rules.proofs.Tests.{or-swap, or-comm, and-false, and-true, lt-or-ge}
 use Rattle.rules.proofs.Lists.{some-append}
 use Rattle.rules.proofs.Steps.{list-step}
 use Rattle.entry.specs.declared.Entry.{Entry}

@@ -13,7 +13,7 @@ use denote.Plain.{UInt}
 use denote.Array.{Array, each}
 use denote.Shadow.{shadow}
 use denote.Laws.{Is}
-use mathlib.Core.Bool.{Bool, true}
+use mathlib.Core.Bool.{true}
 use lib.Dec.{eqb}
 use borrow.Author.Tests.{eqb-true}
 use Rattle.rules.specs.Lists.{some}

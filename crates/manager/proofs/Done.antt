@@ -1,11 +1,10 @@
 -- A call that was refused, and one that was done: each way out of a call, once for the host's and once for a tenant's.
 use Prim.Native.Nat.{ℕ}
-use mathlib.Core.Path.{_≡_, refl, sym}
-use lib.Dec.{eqb}
+use mathlib.Core.Path.{_≡_, refl}
 use borrow.Author.Tests.{eq-eqb, ne-eqb}
 use Rattle.rules.specs.declared.Answer.{Answer}
 use Rattle.rules.specs.declared.Answer.the-variants.{Refused}
-use Rattle.rules.specs.Table.{Table, meterOf, burn}
+use Rattle.rules.specs.Table.{Table, burn}
 use Rattle.rules.specs.Prices.{clause9}
 use Rattle.rules.specs.Calls.{hostCall, tenantCall}
 use Rattle.rules.specs.Sound.{SoundTable}

@@ -1,13 +1,12 @@
 -- Entries that join, change and leave: the counters and the slots go with the list of requests.
-use Prim.Native.Nat.{ℕ, _+_, _-_, _≤_, _<_, min}
-use mathlib.Core.Path.{_≡_, refl, sym, ap, subst, _∙_}
+use Prim.Native.Nat.{ℕ, _+_, _<_, min}
+use mathlib.Core.Path.{_≡_, sym, ap, subst, _∙_}
 use mathlib.Core.List.{List, [], _∷_, _++_, map}
 use native.Mathlib.Omega.{arith}
-use lib.ListN.{length, getD, take, drop, set, length-map, length-take}
-use Rattle.rules.specs.Lists.{countIf}
-use Rattle.rules.specs.Records.{member, rising, WellFormed}
+use lib.ListN.{length, getD, take, set, length-map, length-take}
+use Rattle.rules.specs.Records.{member, WellFormed}
 use Rattle.rules.specs.Request.{Request, nobody}
-use Rattle.rules.specs.Table.{Meter as LawMeter, Table, withQueue}
+use Rattle.rules.specs.Table.{withQueue}
 use Rattle.rules.specs.Calls.{withoutEntry, withEntry}
 use Rattle.rules.proofs.Lists.{count-set}
 use Rattle.meter.specs.declared.Meter.{Meter}
@@ -15,10 +14,10 @@ use Rattle.meter.specs.View.{meterView}
 use Rattle.entry.specs.declared.Entry.{Entry}
 use Rattle.entry.specs.Entry.{request, Stands}
 use Rattle.entry.proofs.Typed.{Lists, few-take}
-use Rattle.counters.specs.Counters.{at, Raised, Stocked, Counts}
+use Rattle.counters.specs.Counters.{Raised, Stocked, Counts}
 use Rattle.counters.proofs.Laws.{counts-raised, counts-stocked, counts-lowered}
 use Rattle.queue.specs.declared.Queue.{Queue}
-use Rattle.queue.specs.Queue.{queued, requests, Neat, Holds}
+use Rattle.queue.specs.Queue.{queued, requests, Holds}
 use Rattle.manager.specs.declared.State.{State}
 use Rattle.manager.specs.State.{view, Tied, Becomes, SameLists}
 

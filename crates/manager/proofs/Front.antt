@@ -1,6 +1,6 @@
 -- Pick, by its three ways out: the front is promoted, the front runs already, there is no front.
-use Prim.Native.Nat.{ℕ, _≤_, _<_}
-use mathlib.Core.Path.{_≡_, refl, sym, ap, subst, _∙_}
+use Prim.Native.Nat.{_≤_, _<_}
+use mathlib.Core.Path.{_≡_, refl, subst}
 use mathlib.Core.Bool.{true, false}
 use mathlib.Core.List.{List, [], _∷_}
 use native.Mathlib.Nat.{not-suc-le-zero}
@@ -8,15 +8,15 @@ use native.Mathlib.Omega.{arith}
 use lib.ListN.{length, getD, length-map, length-take}
 use Rattle.rules.specs.declared.Answer.{Answer}
 use Rattle.rules.specs.declared.Answer.the-variants.{Nothing}
-use Rattle.rules.specs.Request.{Request, nobody, isBlocked, promoted}
+use Rattle.rules.specs.Request.{Request, nobody, isBlocked}
 use Rattle.rules.specs.Scan.{End, found, nothing}
-use Rattle.rules.specs.Calls.{pickEnd, found-table, found-answer, withEntry, named, pickOf}
+use Rattle.rules.specs.Calls.{pickEnd, found-table, pickOf}
 use Rattle.rules.specs.Sound.{SoundTable}
 use Rattle.rules.proofs.Sound.{pick-keeps}
 use Rattle.entry.specs.Entry.{request}
 use Rattle.queue.specs.Queue.{queued, requests}
 use Rattle.manager.specs.declared.State.{State}
-use Rattle.manager.specs.State.{view, Sound, Becomes, Did, Promoted}
+use Rattle.manager.specs.State.{view, Sound, Did, Promoted}
 use Rattle.manager.proofs.Views.{did}
 
 -- how Pick ends, by the front

@@ -1,16 +1,15 @@
 -- A request that joins: what the counters, its own count included, tell of it, and the table with it at the back.
-use Prim.Native.Nat.{ℕ, _+_, _-_, _≤_, _<_}
-use mathlib.Core.Path.{_≡_, refl, sym, ap, subst, _∙_}
-use mathlib.Core.Bool.{Bool, true, false, _&&_, _||_}
+use Prim.Native.Nat.{ℕ, _+_, _-_}
+use mathlib.Core.Path.{_≡_, refl, ap, subst, _∙_}
+use mathlib.Core.Bool.{Bool, true, _&&_, _||_}
 use mathlib.Core.List.{List, [], _∷_, _++_, map}
-use native.Mathlib.Omega.{arith}
 use lib.Dec.{eqb, ltb}
-use lib.ListN.{length, getD, take, set}
+use lib.ListN.{set}
 use lib.Seq.{set-set}
 use Rattle.rules.specs.Lists.{if_then_else_, some, every}
 use Rattle.rules.specs.Records.{member, WellFormed}
 use Rattle.rules.specs.Request.{Request, conflictsAny, promoted, admitted}
-use Rattle.rules.specs.Table.{Meter as LawMeter, Table, isTenant, meterOf, withMeter, spent, numbered, burn}
+use Rattle.rules.specs.Table.{isTenant, meterOf, withMeter, spent, numbered, burn}
 use Rattle.rules.specs.Counters.{cx, cs, figure2, alone}
 use Rattle.rules.specs.Calls.{joined}
 use Rattle.rules.proofs.Tests.{if-either}
@@ -25,7 +24,7 @@ use Rattle.counters.specs.Counters.{at, Counts}
 use Rattle.meter.specs.declared.Meter.{Meter}
 use Rattle.meter.specs.View.{meterView}
 use Rattle.manager.specs.declared.State.{State}
-use Rattle.manager.specs.State.{view, Becomes}
+use Rattle.manager.specs.State.{view}
 
 -- ---- the verdicts: the arrays say of an entry's records what the counts over the queue say
 module _ {x y : List ℕ} {l : List Request} (w : Counts (λ a. a .writes) x l) (r : Counts (λ a. a .reads) y l) (e : Entry) (b : Lists e) where

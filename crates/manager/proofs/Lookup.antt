@@ -5,7 +5,7 @@ use mathlib.Core.Bool.{true, false}
 use native.Mathlib.Omega.{arith}
 use lib.ListN.{length, getD, length-map, length-take}
 use borrow.Author.Tests.{le-leb, lt-leb}
-use Rattle.rules.specs.Request.{Request, nobody}
+use Rattle.rules.specs.Request.{nobody}
 use Rattle.rules.specs.Refusals.{standsAt, isAbsent, entryOf}
 use Rattle.entry.specs.declared.Entry.{Entry}
 use Rattle.entry.specs.Entry.{request, Stands}

@@ -1,16 +1,15 @@
 -- The meters of an opening, one share on at a time, and the fresh state.
-use Prim.Native.Nat.{ℕ, suc, _+_, _≤_, _<_}
-use mathlib.Core.Path.{_≡_, refl, sym, ap, _∙_}
+use Prim.Native.Nat.{ℕ, _+_, _≤_, _<_}
+use mathlib.Core.Path.{_≡_, sym, ap, _∙_}
 use mathlib.Core.List.{List, [], _∷_, _++_, map, map-append}
 use native.Mathlib.Numerals.{add-one}
 use native.Mathlib.Omega.{arith}
 use lib.ListN.{length, getD, take, set, replicate, length-set}
 use lib.Seq.{take-suc, take-suc-set, take-all}
-use Rattle.rules.specs.Table.{Meter as LawMeter, newMeter, fresh}
+use Rattle.rules.specs.Table.{newMeter, fresh}
 use Rattle.meter.specs.declared.Meter.{Meter}
 use Rattle.meter.specs.View.{meterView}
 use Rattle.counters.proofs.Laws.{counts-none}
-use Rattle.counters.specs.Counters.{Counts}
 use Rattle.queue.specs.declared.Queue.{Queue}
 use Rattle.queue.specs.Queue.{Holds}
 use Rattle.manager.specs.State.{Becomes}

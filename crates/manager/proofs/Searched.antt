@@ -1,12 +1,11 @@
 -- A search that has ended, by what it found: the table with that entry promoted, and the meter that paid.
 use Prim.Native.Nat.{ℕ, _+_, _-_, _≤_, _<_}
 use mathlib.Core.Path.{_≡_, refl, sym, ap, subst, _∙_}
-use mathlib.Core.Bool.{true}
-use mathlib.Core.List.{List, []}
+use mathlib.Core.List.{[]}
 use native.Mathlib.Omega.{arith}
 use lib.ListN.{length}
 use Rattle.rules.specs.declared.Answer.{Answer}
-use Rattle.rules.specs.Table.{Meter as LawMeter, Table, isTenant, meterOf, withMeter, spent, burn}
+use Rattle.rules.specs.Table.{Meter as LawMeter, Table, meterOf, withMeter, spent, burn}
 use Rattle.rules.specs.Prices.{clause9, looks, searching}
 use Rattle.rules.specs.Refusals.{firstOf, scanRows}
 use Rattle.rules.specs.Scan.{End, found, nothing, short, scanWalk}

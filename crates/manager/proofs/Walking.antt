@@ -5,21 +5,21 @@ use mathlib.Core.Bool.{Bool, true, false, _&&_, _||_, not}
 use mathlib.Core.List.{List, [], _∷_, _++_}
 use native.Mathlib.Numerals.{add-one}
 use native.Mathlib.Omega.{arith}
-use lib.Dec.{eqb, ltb}
+use lib.Dec.{eqb}
 use lib.ListN.{length, getD, take, drop, length-take, drop-of-length-le}
-use lib.Seq.{take-suc, take-all}
+use lib.Seq.{take-suc}
 use borrow.Author.Tests.{lt-ltb, le-ltb}
-use Rattle.rules.specs.Lists.{if_then_else_, some, total}
+use Rattle.rules.specs.Lists.{some, total}
 use Rattle.rules.specs.Records.{member}
 use Rattle.rules.specs.Request.{Request, nobody, size, conflictsAny, isBlocked}
 use Rattle.rules.specs.Table.{Meter as LawMeter, spent}
 use Rattle.rules.specs.Prices.{clause9, looks}
-use Rattle.rules.specs.Scan.{End, found, nothing, short, Walk, scanWalk, qualifies, Maps, noRecords, mapped, mapsOver, clearBy}
+use Rattle.rules.specs.Scan.{found, scanWalk, qualifies, Maps, noRecords, mapped, mapsOver, clearBy}
 use Rattle.rules.proofs.Lists.{some-cong}
 use Rattle.rules.proofs.Prices.{looks-last}
 use Rattle.rules.proofs.Steps.{list-step}
 use Rattle.rules.proofs.Verdicts.{maps-conflicts}
-use Rattle.maps.specs.Maps.{inMap, Empty, Grown}
+use Rattle.maps.specs.Maps.{Empty, Grown}
 use Rattle.meter.specs.declared.Meter.{Meter}
 use Rattle.meter.specs.View.{meterView}
 use Rattle.manager.specs.declared.scan.Found.the-variants.{At, Nobody, Short}

@@ -1,5 +1,4 @@
 // Pick: the front entry, if it is Blocked, is promoted, whatever the counters say.
-ghost use mathlib.Core.Path.{_≡_};
 ghost use Rattle.rules.specs.Calls.{pickOf};
 ghost use Rattle.manager.specs.State.{view, Sound, Did};
 use super::places;

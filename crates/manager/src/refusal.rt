@@ -1,7 +1,6 @@
 // A refused call of a tenant: nothing changes but its fuel.
 ghost use mathlib.Core.Path.{_≡_};
-ghost use mathlib.Core.Bool.{true, false};
-ghost use lib.Dec.{eqb};
+ghost use mathlib.Core.Bool.{false};
 ghost use Rattle.rules.specs.Table.{isTenant};
 ghost use Rattle.rules.specs.Prices.{clause9, charge as chargeOf};
 ghost use Rattle.manager.specs.State.{view, Sound, Did, refusedWith};

@@ -5,7 +5,7 @@ ghost use mathlib.Core.Bool.{not, _&&_};
 ghost use mathlib.Core.List.{[]};
 ghost use Prim.Native.Nat.{_<_};
 ghost use lib.Dec.{eqb};
-ghost use lib.ListN.{length, getD, take};
+ghost use lib.ListN.{getD, take};
 ghost use Rattle.rules.specs.Request.{nobody, conflictsAny, isBlocked};
 ghost use Rattle.rules.specs.Prices.{clause9};
 ghost use Rattle.rules.specs.Refusals.{firstOf, scanRows};
@@ -74,12 +74,17 @@ fn with_reads(map: [u64; 4], e: Entry) -> [u64; 4]
     maps::with_list(map, list, n)
 }
 
-// The plain side: the entries ahead of a place are lent to a pairwise comparison with the entry there.
-pub fn clear_by_pairs(q: Queue, at: usize) -> bool
-    requires { ⌜ Neat q ⌝ }
-    requires { ⌜ at < length (requests q) ⌝ }
-    ensures { λ r. ⌜ r ≡ not (conflictsAny (take at (requests q)) (getD (requests q) at nobody)) ⌝ }
+// The plain side: the entries ahead of a place are lent to a pairwise comparison with the entry there. Where no entry
+// stands, nothing conflicts.
+pub fn clear_by_pairs(s: State, at: usize) -> bool
+    requires { ⌜ Sound s ⌝ }
+    ensures { λ r. ⌜ r ≡ not (conflictsAny (take at (view s .queue)) (getD (view s .queue) at nobody)) ⌝ }
 {
+    let q = s.queue;
+    let n = q.count;
+    if n <= at {
+        return true;
+    }
     let e = queue::entry_at(q, at);
     let all = q.entries;
     !entry::clash_before(all, at, e)

@@ -2,30 +2,30 @@
 -- the order of the refusals.
 use Prim.Native.Nat.{ℕ, _+_, _-_, _≤_, _<_}
 use mathlib.Core.Path.{_≡_, refl, sym, ap, _∙_}
-use mathlib.Core.Bool.{Bool, true, false, _&&_, _||_, not}
-use mathlib.Core.List.{List, [], _∷_, _++_}
+use mathlib.Core.Bool.{true, false}
+use mathlib.Core.List.{List, [], _∷_}
 use native.Mathlib.Omega.{arith}
 use lib.Dec.{eqb, ltb, leb}
-use lib.ListN.{length, getD, set}
-use borrow.Author.Tests.{eqb-true, ne-eqb, eq-eqb, le-ltb, lt-ltb, lt-leb}
-use Rattle.rules.specs.declared.Mode.the-variants.{Free, Waiting, Blocked}
+use lib.ListN.{length}
+use borrow.Author.Tests.{eqb-true, ne-eqb, eq-eqb, lt-ltb, lt-leb}
+use Rattle.rules.specs.declared.Mode.the-variants.{Free, Blocked}
 use Rattle.rules.specs.declared.Answer.the-variants.{Ok, Done, Nothing}
-use Rattle.rules.specs.Lists.{if_then_else_, some, every, countIf, total, before}
+use Rattle.rules.specs.Lists.{some, every, countIf, total, before}
 use Rattle.rules.specs.Records.{member, rising, risingPast, meets, WellFormed}
-use Rattle.rules.specs.Request.{Request, size, conflict, withMode, promoted, admitted, isNamed}
-use Rattle.rules.specs.Table.{Meter, Table, isTenant, noMeter, meterOf, placesOf, withMeter, fresh, spent, numbered, burn}
+use Rattle.rules.specs.Request.{Request, size, conflict, withMode, promoted, admitted}
+use Rattle.rules.specs.Table.{Meter, Table, meterOf, placesOf, withMeter, fresh, spent, numbered, burn}
 use Rattle.rules.specs.Prices.{clause9, looks, costly, charge, admission}
-use Rattle.rules.specs.Refusals.{firstOf, beginRows, finishRows, recheckRows, scanRows, deliverRows, grantRows, openRows}
+use Rattle.rules.specs.Refusals.{firstOf, beginRows, finishRows, recheckRows, scanRows, grantRows, openRows}
 use Rattle.rules.specs.Counters.{cx, cs, alone}
 use Rattle.rules.specs.Scan.{scanWalk}
-use Rattle.rules.specs.Calls.{Outcome, beginOf, finishOf, recheckOf, scanOf, openOf, grantOf, pickOf, deliverOf, asked, joined}
-use Rattle.rules.specs.Said.{said, wordOf}
-use Rattle.rules.specs.Runs.{Call, Run, runOf, after, step}
-use Rattle.rules.specs.Runs.Call.{Begin, Finish, Recheck, Scan, Open, Grant, Pick, Deliver}
+use Rattle.rules.specs.Calls.{beginOf, finishOf, recheckOf, scanOf, openOf, grantOf, asked, joined}
+use Rattle.rules.specs.Said.{wordOf}
+use Rattle.rules.specs.Runs.{Run, runOf, after, step}
+use Rattle.rules.specs.Runs.Call.{Scan}
 use Rattle.rules.proofs.Tests.{and-false, if-cases}
 use Rattle.rules.proofs.Lists.{count-le}
 use Rattle.rules.proofs.Meters.{Sixteen, meter-own, meter-with, sixteen-with}
-use Rattle.rules.proofs.Admission.{Admissible, no-refusal, begin-admits}
+use Rattle.rules.proofs.Admission.{Admissible, begin-admits}
 use Rattle.promises.specs.Bench.{TenExamples, Tenant, Spare, idle, twelveLines, afterLine, begins, secondOf, word, number, left}
 
 -- ---- the twelve lines, computed

@@ -1,7 +1,7 @@
 -- The ten bench examples of document 01, as one statement.
-use Prim.Native.Nat.{ℕ, _+_, _≤_, _<_}
+use Prim.Native.Nat.{ℕ, _+_, _≤_}
 use mathlib.Core.Path.{_≡_}
-use mathlib.Core.Bool.{Bool, true, false}
+use mathlib.Core.Bool.{true}
 use mathlib.Core.List.{List, [], _∷_}
 use lib.ListN.{length, take}
 use Rattle.rules.specs.declared.Mode.the-variants.{Free, Blocked}
@@ -15,7 +15,7 @@ use Rattle.rules.specs.Counters.{cx, cs}
 use Rattle.rules.specs.Calls.{Outcome, beginOf, finishOf, scanOf, openOf}
 use Rattle.rules.specs.Said.{said, wordOf}
 use Rattle.rules.specs.Runs.{Call, Run, runOf, step}
-use Rattle.rules.specs.Runs.Call.{Begin, Finish, Recheck, Scan, Open, Grant, Pick, Deliver}
+use Rattle.rules.specs.Runs.Call.{Begin, Finish, Recheck, Scan, Open, Grant, Pick}
 
 -- ---- the twelve lines
 shares : List ℕ

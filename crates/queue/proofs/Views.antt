@@ -1,22 +1,20 @@
 -- The queue's slots and its list of requests: how a change of the slots changes the list.
-use Prim.Native.Nat.{ℕ, zero, suc, _+_, _-_, _≤_, _<_}
+use Prim.Native.Nat.{ℕ, suc, _+_, _-_, _≤_, _<_}
 use mathlib.Core.Path.{_≡_, refl, sym, ap, subst, _∙_}
 use mathlib.Core.List.{List, [], _∷_, _++_, map, map-append}
-use mathlib.Core.Logic.{⊎-elim}
 use mathlib.Core.Bool.{Bool, true, false}
 use native.Mathlib.Nat.{not-suc-le-zero}
 use borrow.Author.Tests.{eqb-true, eqb-false}
 use native.Mathlib.Numerals.{add-one}
 use native.Mathlib.Omega.{arith}
 use lib.Dec.{eqb}
-use lib.ListN.{length, getD, take, drop, set, replicate, length-map, length-take, length-set, length-replicate, List·getD-map, drop-of-length-le}
-use lib.Seq.{getD-take, take-set-lt, take-set-le, take-suc-set, drop-set-lt, getD-set-same, getD-set-other}
+use lib.ListN.{length, getD, take, drop, set, replicate, length-map, length-take, List·getD-map, drop-of-length-le}
+use lib.Seq.{getD-take, take-set-lt, take-suc-set, drop-set-lt, getD-set-same, getD-set-other}
 use Rattle.rules.specs.Lists.{if_then_else_, countIf, before}
 use Rattle.rules.specs.Request.{Request, nobody, isNamed}
 use Rattle.rules.specs.Table.{placesOf}
 use Rattle.rules.specs.Refusals.{standsAt}
 use Rattle.rules.specs.Calls.{withoutEntry}
-use Rattle.rules.proofs.Tests.{lt-or-ge}
 use Rattle.rules.proofs.Arrays.{rest-next}
 use Rattle.rules.proofs.Steps.{list-step}
 use Rattle.rules.proofs.Mapped.{map-take, map-drop, map-set}

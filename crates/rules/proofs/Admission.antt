@@ -1,19 +1,18 @@
 -- "A well-formed request from a tenant below its share, with serials left and fuel for the price, is admitted."
-use Prim.Native.Nat.{ℕ, _+_, _≤_, _<_}
-use mathlib.Core.Path.{_≡_, refl, sym, ap, _∙_}
-use mathlib.Core.Bool.{Bool, true, false, _&&_, _||_, not}
-use mathlib.Core.List.{List, []}
+use Prim.Native.Nat.{ℕ, _≤_, _<_}
+use mathlib.Core.Path.{_≡_}
+use mathlib.Core.Bool.{true, false}
+use mathlib.Core.List.{List}
 use native.Mathlib.Omega.{arith}
 use lib.Dec.{eqb, ltb, leb}
 use lib.ListN.{length}
 use borrow.Author.Tests.{le-ltb, lt-leb, ne-eqb}
-use Rattle.rules.specs.Lists.{if_then_else_}
-use Rattle.rules.specs.Records.{rising, meets, WellFormed}
+use Rattle.rules.specs.Records.{WellFormed}
 use Rattle.rules.specs.Request.{Request, admitted}
 use Rattle.rules.specs.Table.{Table, meterOf, isTenant, placesOf, burn}
 use Rattle.rules.specs.Prices.{Prices, admission}
 use Rattle.rules.specs.Refusals.{firstOf, beginRows}
-use Rattle.rules.specs.Calls.{Outcome, asked, joined, named, beginOf}
+use Rattle.rules.specs.Calls.{asked, joined, named, beginOf}
 
 pub record Admissible (p : Prices) (t : Table) (e : Request) : Type 0 where
   pub tenant : isTenant (e .tenant) ≡ true

@@ -1,15 +1,17 @@
 -- When two requests conflict: whichever is asked, and exactly where some record is written by one and read or written by
 -- the other. Whom a request conflicts with in a queue, record by record.
-use Prim.Native.Nat.{ℕ}
+use Prim.Native.Nat.{ℕ, zero, suc, _≤_}
 use mathlib.Core.Path.{_≡_, refl, sym, ap, _∙_}
 use mathlib.Core.Bool.{Bool, true, false, _&&_, _||_}
-use mathlib.Core.List.{List, [], _∷_, _++_}
+use mathlib.Core.List.{List, [], _∷_}
 use mathlib.Core.Logic.{_↔_, ⊎-elim}
-use lib.ListN.{getD, take}
+use native.Mathlib.Nat.{not-suc-le-zero}
+use native.Mathlib.Omega.{arith}
+use lib.ListN.{length, getD, take}
 use Rattle.rules.specs.Lists.{some}
 use Rattle.rules.specs.Records.{member, meets}
 use Rattle.rules.specs.Request.{Request, nobody, conflict, conflictsAny}
-use Rattle.rules.proofs.Tests.{or-assoc, or-swap, or-comm, or-true, either, both, and-false}
+use Rattle.rules.proofs.Tests.{or-assoc, or-comm, or-true, either, both}
 use Rattle.rules.proofs.Lists.{some-cong, some-or, some-some, meets-sym, meets-at, meets-both}
 
 or-last : (a b c : Bool) → (a || b || c) ≡ (a || c || b)
@@ -96,3 +98,13 @@ conflict-spread q e =
 pub front-clear : (q : List Request) → conflictsAny (take 0 q) (getD q 0 nobody) ≡ false
 unfolding some
 front-clear q = refl
+
+-- behind the last entry stands nobody, who conflicts with no entry
+past-nobody : (q : List Request) (at : ℕ) → length q ≤ at → getD q at nobody ≡ nobody
+past-nobody [] at h = refl
+past-nobody (e ∷ q) zero h = absurd (not-suc-le-zero h)
+past-nobody (e ∷ q) (suc at) h = past-nobody q at (omega arith)
+
+pub past-clear : (q : List Request) (at : ℕ) → length q ≤ at → conflictsAny (take at q) (getD q at nobody) ≡ false
+unfolding some
+past-clear q at h = ap (conflictsAny (take at q)) (past-nobody q at h) ∙ conflict-spread (take at q) nobody

@@ -1,23 +1,23 @@
 -- What keeps a table sound: a meter changed, an entry added, taken out or put in another's place.
 use Prim.Native.Nat.{ℕ, _+_, _-_, _≤_, _<_}
-use mathlib.Core.Path.{_≡_, refl, sym, ap, subst, _∙_}
-use mathlib.Core.Bool.{Bool, true, false, _&&_, _||_, not}
+use mathlib.Core.Path.{_≡_, refl, sym, ap, _∙_}
+use mathlib.Core.Bool.{Bool, true, false}
 use mathlib.Core.List.{List, [], _∷_, _++_}
 use native.Mathlib.Omega.{arith}
 use lib.Dec.{eqb, ltb}
-use lib.ListN.{length, getD, take, drop, set, length-set}
+use lib.ListN.{length, getD, take, set, length-set}
 use lib.Seq.{set-getD}
 use borrow.Author.Tests.{ltb-true, ltb-false, eqb-true}
-use Rattle.rules.specs.declared.Mode.the-variants.{Free, Waiting, Blocked}
-use Rattle.rules.specs.Lists.{if_then_else_, total}
+use Rattle.rules.specs.declared.Mode.the-variants.{Free, Waiting}
+use Rattle.rules.specs.Lists.{if_then_else_}
 use Rattle.rules.specs.Records.{WellFormed}
-use Rattle.rules.specs.Request.{Request, nobody, size, conflict, isFree, isWaiting, isBlocked, withMode, promoted, delivered}
+use Rattle.rules.specs.Request.{Request, nobody, conflict, withMode, promoted}
 use Rattle.rules.specs.Table.{Meter, Table, isTenant, noMeter, meterOf, withMeter, withQueue, placesOf, spent, burn, mostFuel}
 use Rattle.rules.specs.Calls.{withoutEntry, withEntry}
-use Rattle.rules.specs.Sound.{Each, InOrder, Fit, SoundTable, SerialsRise, ClearOf, givenBy}
-use Rattle.rules.proofs.Tests.{one, if-cases, if-either}
-use Rattle.rules.proofs.Lists.{total-set, count-set, count-last, count-without}
-use Rattle.rules.proofs.Meters.{tenant-range, meter-with, sixteen-with}
+use Rattle.rules.specs.Sound.{Each, Fit, SoundTable, SerialsRise, ClearOf, givenBy}
+use Rattle.rules.proofs.Tests.{if-cases}
+use Rattle.rules.proofs.Lists.{total-set, count-set, count-without}
+use Rattle.rules.proofs.Meters.{tenant-range, meter-with}
 use Rattle.rules.proofs.Order.{each-at, each-map, each-last, each-without, each-set, order-last, order-without, order-set, order-ahead}
 use Rattle.rules.proofs.Room.{place-taken}
 

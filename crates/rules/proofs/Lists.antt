@@ -1,5 +1,5 @@
 -- Laws of the words on lists: some, every, how many, the sum.
-use Prim.Native.Nat.{ℕ, zero, suc, _+_, _*_, _≤_, _<_}
+use Prim.Native.Nat.{ℕ, zero, suc, _+_, _≤_, _<_}
 use mathlib.Core.Path.{_≡_, refl, sym, ap, _∙_}
 use mathlib.Core.Bool.{Bool, true, false, _&&_, _||_, not}
 use mathlib.Core.List.{List, [], _∷_, _++_}
@@ -9,10 +9,10 @@ use native.Mathlib.Omega.{arith}
 use lib.Dec.{eqb, ltb}
 use lib.ListN.{length, getD, take, drop, set}
 use lib.Seq.{split-at}
-use borrow.Author.Tests.{eqb-true, eq-eqb, lt-ltb, le-ltb}
-use Rattle.rules.specs.Lists.{if_then_else_, some, every, countIf, total, before}
+use borrow.Author.Tests.{eqb-true, eq-eqb, lt-ltb}
+use Rattle.rules.specs.Lists.{some, every, countIf, total}
 use Rattle.rules.specs.Records.{member, meets}
-use Rattle.rules.proofs.Tests.{or-assoc, or-swap, and-swap, either, neither, eqb-sym, one, one-le, not-or, or-false, or-true}
+use Rattle.rules.proofs.Tests.{or-assoc, or-swap, and-swap, either, eqb-sym, one, one-le, not-or, or-true}
 
 module _ {A : Type 0} where
   pub some-append : (f : A → Bool) (xs ys : List A) → some f (xs ++ ys) ≡ (some f xs || some f ys)

@@ -1,12 +1,12 @@
 -- What holds of each element, and of each two in order: at a place, and after an element is added, taken out or put.
-use Prim.Native.Nat.{ℕ, zero, suc, _+_, _≤_, _<_}
-use mathlib.Core.Path.{_≡_, refl, sym, ap, subst, _∙_}
-use mathlib.Core.Bool.{Bool, true, false, _&&_, _||_}
+use Prim.Native.Nat.{ℕ, zero, suc, _+_, _<_}
+use mathlib.Core.Path.{_≡_, sym, subst}
+use mathlib.Core.Bool.{Bool, false}
 use mathlib.Core.List.{List, [], _∷_, _++_}
 use native.Mathlib.Nat.{not-suc-le-zero, le-of-suc-le-suc}
 use native.Mathlib.Numerals.{add-one}
 use lib.ListN.{length, getD, take, drop, set}
-use Rattle.rules.specs.Lists.{some, total}
+use Rattle.rules.specs.Lists.{some}
 use Rattle.rules.specs.Sound.{Each, InOrder}
 use Rattle.rules.proofs.Tests.{neither}
 

@@ -1,18 +1,18 @@
 -- What requests and searches cost. A search pays before it looks, so it never burns more than the fuel it has, nor more
 -- than to look at the whole queue; under clause 9 that is at most 1,089.
-use Prim.Native.Nat.{ℕ, zero, suc, _+_, _*_, _-_, _≤_, _<_}
-use mathlib.Core.Path.{_≡_, refl, sym, ap, _∙_}
-use mathlib.Core.Bool.{Bool, true, false, _&&_}
+use Prim.Native.Nat.{ℕ, _+_, _*_, _-_, _≤_}
+use mathlib.Core.Path.{_≡_, refl}
+use mathlib.Core.Bool.{true, false}
 use mathlib.Core.List.{List, [], _∷_, _++_}
 use native.Mathlib.Omega.{arith}
 use lib.Dec.{ltb, leb}
 use lib.ListN.{length}
 use borrow.Author.Tests.{leb-true, ltb-false}
-use Rattle.rules.specs.Lists.{if_then_else_, every, total}
+use Rattle.rules.specs.Lists.{every, total}
 use Rattle.rules.specs.Request.{Request, size}
 use Rattle.rules.specs.Table.{Table, meterOf}
 use Rattle.rules.specs.Prices.{Prices, clause9, admission, looks, searching}
-use Rattle.rules.specs.Scan.{Walk, found, short, scanWalk, qualifies}
+use Rattle.rules.specs.Scan.{Walk, scanWalk, qualifies}
 use Rattle.rules.specs.Calls.{search}
 use Rattle.rules.proofs.Tests.{both, if-either, if-cases}
 use Rattle.rules.proofs.Lists.{total-append}

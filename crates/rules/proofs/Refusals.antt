@@ -1,17 +1,17 @@
 -- The rows of a call's refusals: what no refusal means, and that a number that is no tenant is refused with 1.
 use Prim.Native.Nat.{ℕ, _+_, _≤_, _<_}
-use mathlib.Core.Path.{_≡_, refl, sym, ap, subst, _∙_}
-use mathlib.Core.Bool.{Bool, true, false, _&&_, _||_, not}
-use mathlib.Core.List.{List, [], _∷_}
-use lib.Dec.{eqb, ltb, leb}
-use lib.ListN.{length, getD}
+use mathlib.Core.Path.{_≡_, refl, sym, _∙_}
+use mathlib.Core.Bool.{Bool, true, false, _&&_, not}
+use mathlib.Core.List.{List, _∷_}
+use lib.Dec.{eqb, ltb}
+use lib.ListN.{length}
 use borrow.Author.Tests.{eq-eqb, ltb-false, leb-false, eqb-false, eqb-true, not-false}
-use Rattle.rules.specs.Lists.{if_then_else_, some, total, before}
-use Rattle.rules.specs.Records.{member, rising, meets, WellFormed}
-use Rattle.rules.specs.Request.{Request, nobody, size, isNamed, isFree, isBlocked}
+use Rattle.rules.specs.Lists.{some, total}
+use Rattle.rules.specs.Records.{member, rising}
+use Rattle.rules.specs.Request.{Request, size, isFree}
 use Rattle.rules.specs.Table.{Table, meterOf, isTenant, placesOf, mostFuel}
 use Rattle.rules.specs.Prices.{Prices, admission, charge, costly}
-use Rattle.rules.specs.Refusals.{Row, _gives_, firstOf, isDry, standsAt, isAbsent, entryOf, beginRows, finishRows, recheckRows, scanRows, deliverRows, grantRows, openRows}
+use Rattle.rules.specs.Refusals.{Row, _gives_, firstOf, standsAt, isAbsent, entryOf, beginRows, finishRows, recheckRows, scanRows, deliverRows, grantRows, openRows}
 use Rattle.rules.proofs.Tests.{both, neither, above-zero}
 use Rattle.rules.proofs.Admission.{Admissible}
 

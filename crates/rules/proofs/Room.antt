@@ -1,6 +1,6 @@
 -- "There is no queue full": the places of the tenants add up to the queue, and the shares to at most 64.
-use Prim.Native.Nat.{ℕ, zero, suc, _+_, _-_, _≤_, _<_}
-use mathlib.Core.Path.{_≡_, refl, sym, ap, _∙_}
+use Prim.Native.Nat.{ℕ, suc, _+_, _-_, _≤_, _<_}
+use mathlib.Core.Path.{_≡_, refl, sym, _∙_}
 use mathlib.Core.Bool.{Bool, true, false}
 use mathlib.Core.List.{List, [], _∷_, _++_}
 use native.Mathlib.Omega.{arith}
@@ -10,7 +10,7 @@ use borrow.Author.Tests.{eqb-true, eqb-false, ne-eqb}
 use Rattle.rules.specs.Lists.{if_then_else_, countIf, total}
 use Rattle.rules.specs.Request.{Request}
 use Rattle.rules.specs.Table.{Meter, Table, isTenant, noMeter, meterOf, placesOf}
-use Rattle.rules.specs.Sound.{Each, Fit, SoundTable, givenBy}
+use Rattle.rules.specs.Sound.{Each, SoundTable}
 use Rattle.rules.proofs.Tests.{one, one-le}
 use Rattle.rules.proofs.Meters.{tenant-range, tenant-test}
 use Rattle.rules.proofs.Order.{each-map, each-last}

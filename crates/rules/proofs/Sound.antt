@@ -1,34 +1,32 @@
 -- Every call keeps a table sound, and an opening makes one, whatever the prices.
-use Prim.Native.Nat.{ℕ, suc, _+_, _-_, _≤_, _<_}
-use mathlib.Core.Path.{_≡_, refl, sym, ap, subst, _∙_}
-use mathlib.Core.Bool.{Bool, true, false, _&&_, _||_, not}
-use mathlib.Core.List.{List, [], _∷_, _++_, map}
-use native.Mathlib.Nat.{not-suc-le-zero}
+use Prim.Native.Nat.{ℕ, _+_, _-_, _≤_, _<_}
+use mathlib.Core.Path.{_≡_, refl, sym, ap, _∙_}
+use mathlib.Core.Bool.{Bool, true, false, _&&_}
+use mathlib.Core.List.{List, [], _∷_, map}
 use native.Mathlib.Omega.{arith}
-use lib.Dec.{eqb, ltb, leb}
-use lib.ListN.{length, getD, take, drop, set, replicate, length-map}
-use borrow.Author.Tests.{ltb-false, leb-false, eqb-true, eqb-false, not-true, not-false, ltb-true}
+use lib.Dec.{eqb}
+use lib.ListN.{length, getD, take, drop, replicate, length-map}
+use borrow.Author.Tests.{eqb-true, eqb-false, not-true}
 use Rattle.rules.specs.declared.Mode.{Mode}
 use Rattle.rules.specs.declared.Mode.the-variants.{Free, Waiting, Blocked}
-use Rattle.rules.specs.declared.Answer.{Answer}
-use Rattle.rules.specs.Lists.{if_then_else_, some, total, countIf, before}
-use Rattle.rules.specs.Request.{Request, nobody, size, conflict, conflictsAny, isFree, isWaiting, isBlocked, withMode, withDue, promoted, admitted, delivered}
+use Rattle.rules.specs.Lists.{if_then_else_, some, total, countIf}
+use Rattle.rules.specs.Request.{Request, nobody, size, conflict, conflictsAny, isWaiting, isBlocked, withMode, withDue, promoted, admitted, delivered}
 use Rattle.rules.specs.Table.{Meter, Table, isTenant, meterOf, withMeter, numbered, granted, placesOf, burn, fresh, newMeter, mostFuel}
 use Rattle.rules.specs.Prices.{Prices, admission}
-use Rattle.rules.specs.Refusals.{Row, _gives_, firstOf, standsAt, isAbsent, entryOf, beginRows, finishRows, recheckRows, scanRows, deliverRows, grantRows, openRows}
+use Rattle.rules.specs.Refusals.{firstOf, standsAt, isAbsent, entryOf, beginRows, finishRows, recheckRows, scanRows, deliverRows, grantRows, openRows}
 use Rattle.rules.specs.Counters.{cx, cs, alone}
 use Rattle.rules.specs.Scan.{End, found, nothing, short}
-use Rattle.rules.specs.Calls.{Outcome, toPay, tenantCall, withoutEntry, withEntry, asked, joined, found-table, search, pickEnd, beginOf, finishOf, recheckOf, scanOf, openOf, grantOf, pickOf, deliverOf}
+use Rattle.rules.specs.Calls.{toPay, withoutEntry, withEntry, asked, joined, found-table, search, pickEnd, beginOf, finishOf, recheckOf, scanOf, openOf, grantOf, pickOf, deliverOf}
 use Rattle.rules.specs.Runs.{Call, step}
 use Rattle.rules.specs.Runs.Call.{Begin, Finish, Recheck, Scan, Open, Grant, Pick, Deliver}
 use Rattle.rules.specs.Sound.{Each, InOrder, Fit, SoundTable, SerialsRise, ClearOf, givenBy}
 use Rattle.rules.proofs.Tests.{both, neither, if-cases}
 use Rattle.rules.proofs.Lists.{some-append}
 use Rattle.rules.proofs.Requests.{delivered-as, conflict-size}
-use Rattle.rules.proofs.Meters.{meter-own, sixteen-with}
+use Rattle.rules.proofs.Meters.{meter-own}
 use Rattle.rules.proofs.Admission.{Admissible}
 use Rattle.rules.proofs.Refusals.{stranger, free-of-charge, begin-passes, grant-passes, open-passes, finish-passes, recheck-passes, deliver-passes, here}
-use Rattle.rules.proofs.Order.{each-at, each-map, each-none, each-take, order-ahead}
+use Rattle.rules.proofs.Order.{each-at, each-map, each-none, order-ahead}
 use Rattle.rules.proofs.Keeps.{sound-meter, sound-burn, burn-none, fuel-limit, promoted-fit, sound-joined, sound-removed, sound-replaced}
 use Rattle.rules.proofs.Verdicts.{alone-conflicts}
 use Rattle.rules.proofs.Walks.{stop-clear, walk-stops}

@@ -1,12 +1,12 @@
 -- The counters and the maps tell conflicts: figure 2's verdict at Begin, Recheck's condition, and the maps of the search.
-use Prim.Native.Nat.{ℕ, zero, suc, _+_, _<_}
+use Prim.Native.Nat.{ℕ, _+_, _<_}
 use mathlib.Core.Path.{_≡_, refl, sym, ap, _∙_}
 use mathlib.Core.Bool.{Bool, true, false, _&&_, _||_, not}
 use mathlib.Core.List.{List, [], _∷_, _++_}
 use native.Mathlib.Omega.{arith}
 use lib.Dec.{eqb, ltb}
-use lib.ListN.{length, getD, take, drop}
-use Rattle.rules.specs.Lists.{some, every, countIf}
+use lib.ListN.{length, getD}
+use Rattle.rules.specs.Lists.{some, every}
 use Rattle.rules.specs.Records.{member, meets, WellFormed}
 use Rattle.rules.specs.Request.{Request, nobody, conflictsAny}
 use Rattle.rules.specs.Counters.{cx, cs, figure2, alone}

@@ -1,17 +1,16 @@
 -- Where a search ends: the entry it found stands in the queue and qualifies.
-use Prim.Native.Nat.{ℕ, suc, _+_, _-_, _≤_, _<_}
-use mathlib.Core.Path.{_≡_, refl, sym, ap, subst, _∙_}
-use mathlib.Core.Bool.{Bool, true, false, _&&_, not}
+use Prim.Native.Nat.{ℕ, _+_, _-_, _<_}
+use mathlib.Core.Path.{_≡_, subst}
+use mathlib.Core.Bool.{true, false, _&&_, not}
 use mathlib.Core.List.{List, [], _∷_, _++_}
 use native.Mathlib.Omega.{arith}
 use lib.Dec.{eqb, ltb}
 use borrow.Author.Tests.{not-true}
 use lib.ListN.{length, getD, take, length-append}
 use lib.Seq.{append-snoc, take-append-seam, getD-append-seam}
-use Rattle.rules.specs.Lists.{if_then_else_}
 use Rattle.rules.specs.Request.{Request, nobody, size, conflictsAny, isBlocked}
 use Rattle.rules.specs.Prices.{Prices}
-use Rattle.rules.specs.Scan.{End, Walk, found, nothing, short, scanWalk, qualifies}
+use Rattle.rules.specs.Scan.{Walk, found, nothing, short, scanWalk, qualifies}
 use Rattle.rules.proofs.Tests.{both, if-cases}
 
 -- the entry at a place of a queue qualifies

@@ -1,6 +1,5 @@
 -- The eight calls: each takes a table and its arguments to the table after it, its answer, and the units burnt.
 use Prim.Native.Nat.{ℕ, _+_, _-_}
-use mathlib.Core.Bool.{Bool, true, false}
 use mathlib.Core.List.{List, [], _∷_, _++_}
 use lib.Dec.{eqb}
 use lib.ListN.{getD, set, take, drop, replicate}

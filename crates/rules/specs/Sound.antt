@@ -8,7 +8,7 @@ use lib.ListN.{length}
 use Rattle.rules.specs.Lists.{total}
 use Rattle.rules.specs.Records.{WellFormed}
 use Rattle.rules.specs.Request.{Request, size, conflict, isFree, isWaiting, isBlocked}
-use Rattle.rules.specs.Table.{Meter, Table, isTenant, meterOf, placesOf, mostFuel}
+use Rattle.rules.specs.Table.{Table, isTenant, meterOf, placesOf, mostFuel}
 
 -- it holds of each element
 pub data Each {A : Type 0} (P : A → Type 0) : List A → Type 0 where

@@ -1,9 +1,9 @@
 -- As `raised`, the other way round: what was taken so far, added again, is the counters as they were.
 use borrow.Author.Needs.{needs}
-use Prim.Native.Nat.{_≤_, _<_, _-_, _+_}
+use Prim.Native.Nat.{_≤_, _<_, _-_}
 use native.Mathlib.Omega.{arith}
-use mathlib.Core.Path.{_≡_, sym, _∙_}
-use lib.ListN.{length, getD, take, drop, set}
+use mathlib.Core.Path.{_≡_}
+use lib.ListN.{length, getD, take}
 use Rattle.entry.proofs.Typed.{Bytes, bytes}
 use Rattle.counters.specs.Counters.{Raised}
 use Rattle.counters.proofs.Loops.{raised-none, lowered-more, lowered-some}

@@ -1,9 +1,9 @@
 -- After i turns each counter has risen by how often its record stands among the first i.
 use borrow.Author.Needs.{needs}
-use Prim.Native.Nat.{_≤_, _<_, _-_, _+_}
+use Prim.Native.Nat.{_≤_, _<_, _-_}
 use native.Mathlib.Omega.{arith}
-use mathlib.Core.Path.{_≡_, sym, _∙_}
-use lib.ListN.{length, getD, take, drop, set, length-take, length-set}
+use mathlib.Core.Path.{_≡_}
+use lib.ListN.{length, take, length-take, length-set}
 use Rattle.entry.proofs.Typed.{Bytes, bytes}
 use Rattle.counters.specs.Counters.{Raised}
 use Rattle.counters.proofs.Loops.{raised-none, raised-more, raised-fits}

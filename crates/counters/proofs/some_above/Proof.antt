@@ -1,9 +1,9 @@
 -- What the first i records do not show, the rest shows, if anything.
 use borrow.Author.Needs.{needs}
-use Prim.Native.Nat.{_≤_, _<_, _-_, _+_}
+use Prim.Native.Nat.{_≤_, _-_}
 use native.Mathlib.Omega.{arith}
 use mathlib.Core.Path.{_≡_, sym, _∙_}
-use lib.ListN.{length, getD, take, drop, set}
+use lib.ListN.{length, take, drop}
 use Rattle.entry.proofs.Typed.{Bytes, bytes}
 use lib.Dec.{ltb}
 use borrow.Author.Tests.{lt-ltb, le-ltb}

@@ -1,7 +1,7 @@
 -- What is not among the first i stands in the rest, if anywhere.
-use Prim.Native.Nat.{_≤_, _-_}
+use Prim.Native.Nat.{_-_}
 use mathlib.Core.Path.{_≡_, sym, _∙_}
-use lib.ListN.{length, drop}
+use lib.ListN.{drop}
 use borrow.Author.Tests.{eq-eqb, ne-eqb}
 use Rattle.rules.specs.Records.{member}
 use Rattle.rules.proofs.Steps.{member-step, member-end}

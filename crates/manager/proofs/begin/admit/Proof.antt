@@ -1,8 +1,8 @@
 -- The serial is given and the price paid; the counters rise, tell the verdict, and the entry joins the back.
 use borrow.Author.Needs.{needs}
 use native.Mathlib.Omega.{arith}
-use Prim.Native.Nat.{ℕ, _+_, _≤_, _<_}
-use mathlib.Core.Path.{_≡_, refl, sym, ap, subst, _∙_}
+use Prim.Native.Nat.{ℕ, _+_, _<_}
+use mathlib.Core.Path.{_≡_, sym, ap, subst, _∙_}
 use Rattle.rules.specs.Request.{Request}
 use Rattle.rules.specs.Table.{Meter as LawMeter, meterOf, spent, numbered, burn}
 use Rattle.rules.specs.Prices.{clause9, admission}
@@ -11,7 +11,7 @@ use Rattle.rules.proofs.Admission.{Admissible}
 use Rattle.rules.proofs.Refusals.{begin-passes}
 use Rattle.manager.specs.State.{view, Becomes}
 use mathlib.Core.List.{List, [], _∷_, _++_}
-use lib.ListN.{length, take}
+use lib.ListN.{length}
 use Rattle.rules.specs.Records.{WellFormed}
 use Rattle.rules.specs.Request.{requested, size, admitted}
 use Rattle.rules.specs.Calls.{joined, named}

@@ -1,13 +1,12 @@
 -- Refused as things stand, or one entry has an answer fewer due.
 use borrow.Author.Needs.{needs}
 use Prim.Native.Nat.{_<_}
-use native.Mathlib.Omega.{arith}
-use mathlib.Core.Path.{_≡_, refl, sym, ap, _∙_}
+use mathlib.Core.Path.{_≡_, sym, ap, _∙_}
 use mathlib.Core.Bool.{false}
 use lib.Dec.{eqb}
-use lib.ListN.{length, getD}
+use lib.ListN.{length}
 use borrow.Author.Tests.{eqb-false}
-use Rattle.rules.specs.Request.{Request, nobody, delivered}
+use Rattle.rules.specs.Request.{Request, delivered}
 use Rattle.rules.specs.Refusals.{firstOf, isAbsent, standsAt, entryOf, deliverRows}
 use Rattle.rules.specs.Calls.{withEntry, named, deliverOf}
 use Rattle.rules.proofs.Tests.{above-zero}

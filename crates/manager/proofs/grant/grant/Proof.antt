@@ -2,11 +2,9 @@
 use borrow.Author.Needs.{needs}
 use native.Mathlib.Omega.{arith}
 use Prim.Native.Nat.{_+_, _≤_}
-use mathlib.Core.Path.{_≡_, refl, sym, ap, _∙_}
-use mathlib.Core.Bool.{true, false}
-use borrow.Author.Tests.{ltb-false, not-false}
-use Rattle.rules.specs.Table.{Meter as LawMeter, isTenant, meterOf, granted, withMeter}
-use Rattle.rules.specs.Refusals.{firstOf, grantRows}
+use mathlib.Core.Path.{_≡_, sym, ap, _∙_}
+use mathlib.Core.Bool.{true}
+use Rattle.rules.specs.Table.{Meter as LawMeter, isTenant, meterOf, granted}
 use Rattle.rules.specs.Calls.{grantOf}
 use Rattle.rules.proofs.Refusals.{grant-passes}
 use Rattle.rules.proofs.Sound.{grant-sound}

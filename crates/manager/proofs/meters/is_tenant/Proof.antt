@@ -1,5 +1,4 @@
 -- By whether the number is at least 1.
-use borrow.Author.Needs.{needs}
 use borrow.Author.Tests.{le-leb, lt-leb}
 use Rattle.manager.proofs.meters.is_tenant.Statement.{statement}
 use Rattle.manager.proofs.meters.is_tenant.Tie as tie

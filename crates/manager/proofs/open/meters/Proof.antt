@@ -1,6 +1,6 @@
 -- The first i meters are made.
 use borrow.Author.Needs.{needs}
-use Prim.Native.Nat.{_-_, _<_, _≤_}
+use Prim.Native.Nat.{_-_, _≤_}
 use native.Mathlib.Omega.{arith}
 use mathlib.Core.Path.{refl}
 use Rattle.manager.proofs.Opening.{Metered, metered-more, metered-all}

@@ -1,7 +1,6 @@
 -- Refused, with every share 0, or a fresh state of the shares.
 use borrow.Author.Needs.{needs}
-use mathlib.Core.Path.{refl, sym, _∙_}
-use mathlib.Core.List.{[]}
+use mathlib.Core.Path.{sym, _∙_}
 use Rattle.rules.specs.Table.{fresh}
 use Rattle.rules.specs.Calls.{openOf}
 use Rattle.rules.proofs.Refusals.{open-passes}

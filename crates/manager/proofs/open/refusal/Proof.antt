@@ -1,7 +1,4 @@
 -- By the two tests of refusal 14.
-use borrow.Author.Needs.{needs}
-use mathlib.Core.Path.{sym, ap, _∙_}
-use mathlib.Core.Bool.{Bool, _||_}
 use borrow.Author.Tests.{eq-eqb, ne-eqb, lt-ltb, le-ltb}
 use Rattle.rules.specs.Refusals.{firstOf, openRows}
 use Rattle.manager.proofs.open.refusal.Statement.{statement}

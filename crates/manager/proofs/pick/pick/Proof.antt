@@ -2,11 +2,9 @@
 use borrow.Author.Needs.{needs}
 use Prim.Native.Nat.{_<_}
 use native.Mathlib.Omega.{arith}
-use mathlib.Core.Path.{_≡_, refl, sym, ap, _∙_}
-use mathlib.Core.Bool.{true, false}
+use mathlib.Core.Path.{_≡_, sym, ap, _∙_}
 use lib.ListN.{length, getD}
 use Rattle.rules.specs.Request.{Request, nobody, isBlocked}
-use Rattle.rules.specs.Calls.{pickOf}
 use Rattle.queue.specs.Queue.{requests}
 use Rattle.queue.proofs.Views.{Slots, requests-length}
 use Rattle.manager.proofs.Typed.{state-slots}

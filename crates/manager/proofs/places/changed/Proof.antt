@@ -1,5 +1,4 @@
 -- The slot takes the entry, and no counter moves.
-use borrow.Author.Needs.{needs}
 use Rattle.manager.proofs.Entries.{in-use, changed-becomes}
 use Rattle.manager.proofs.places.changed.Statement.{statement}
 use Rattle.manager.proofs.places.changed.Tie as tie

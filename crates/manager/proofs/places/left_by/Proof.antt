@@ -1,7 +1,6 @@
 -- The counters fall at the entry's records, and the slots behind it move up.
 use borrow.Author.Needs.{needs}
 use native.Mathlib.Omega.{arith}
-use Prim.Native.Nat.{_≤_}
 use Rattle.entry.proofs.Typed.{Lists, entry-lists}
 use mathlib.Core.Path.{_≡_}
 use lib.ListN.{getD, take}

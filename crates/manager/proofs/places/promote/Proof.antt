@@ -1,6 +1,6 @@
 -- The entry is promoted where it stands.
 use borrow.Author.Needs.{needs}
-use mathlib.Core.Path.{_≡_, refl, sym, ap, _∙_}
+use mathlib.Core.Path.{_≡_, ap, _∙_}
 use Rattle.rules.specs.Request.{Request, promoted}
 use lib.ListN.{getD}
 use Rattle.rules.specs.Request.{nobody}

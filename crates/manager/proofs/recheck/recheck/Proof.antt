@@ -4,8 +4,8 @@ use Prim.Native.Nat.{ℕ, _+_, _<_, _≤_}
 use native.Mathlib.Omega.{arith}
 use mathlib.Core.Path.{_≡_, refl, sym, ap, subst₂, _∙_}
 use mathlib.Core.Bool.{true, false}
-use lib.ListN.{length, getD}
-use Rattle.rules.specs.Request.{Request, size, promoted}
+use lib.ListN.{length}
+use Rattle.rules.specs.Request.{size, promoted}
 use Rattle.rules.specs.Table.{Table, isTenant, meterOf, burn}
 use Rattle.rules.specs.Prices.{clause9}
 use Rattle.rules.specs.Refusals.{firstOf, isAbsent, standsAt, entryOf, recheckRows}

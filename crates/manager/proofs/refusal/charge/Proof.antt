@@ -1,8 +1,6 @@
 -- The charged numbers are 3 to 11, and a dry tank pays nothing.
-use borrow.Author.Needs.{needs}
-use native.Mathlib.Omega.{arith}
 use Prim.Native.Nat.{_<_}
-use mathlib.Core.Path.{sym, ap, _∙_}
+use mathlib.Core.Path.{sym}
 use Rattle.rules.specs.Prices.{clause9}
 use Rattle.rules.proofs.Costly.{charge-low, charge-high, charge-dry, charge-one}
 use Rattle.rules.proofs.Tests.{above-zero}

@@ -1,12 +1,11 @@
 -- By how the search ended.
 use borrow.Author.Needs.{needs}
-use mathlib.Core.Path.{_≡_, refl, sym, ap, subst, _∙_}
-use Rattle.rules.specs.Calls.{found-table, found-answer}
+use mathlib.Core.Path.{_≡_, refl, sym, ap, _∙_}
+use Rattle.rules.specs.Calls.{found-answer}
 use mathlib.Core.Bool.{true}
 use Rattle.rules.specs.Table.{isTenant}
 use Rattle.rules.proofs.Refusals.{scan-passes}
-use Rattle.manager.specs.declared.scan.Found.{Found}
-use Rattle.manager.specs.State.{view, Becomes}
+use Rattle.manager.specs.State.{view}
 use Rattle.manager.specs.Search.{endOf}
 use Rattle.manager.proofs.Searched.{found-there, searched}
 use Rattle.manager.proofs.scan.ended.Statement.{statement}
