@@ -56,10 +56,6 @@ pub not-or : (a b : Bool) → not (a || b) ≡ (not a && not b)
 not-or true b = refl
 not-or false b = refl
 
-pub not-not : (a : Bool) → not (not a) ≡ a
-not-not true = refl
-not-not false = refl
-
 -- one of two tests holds; both hold; neither holds
 pub either : (a b : Bool) → (a || b) ≡ true → (a ≡ true) ⊎ (b ≡ true)
 either true b e = inl refl
