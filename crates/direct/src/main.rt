@@ -1,0 +1,319 @@
+// Makes the eight calls directly, each on the state that the one before gave back, and prints a line for each. It reaches
+// what no event file can: refusal 8, and shares that are not 16.
+ghost use Prim.Native.Nat.{_≤_};
+ghost use Rattle.manager.specs.State.{Sound};
+use libc::STDOUT_FILENO;
+use listing::Left;
+use listing::Line;
+use listing::Name;
+use manager::Outcome;
+use manager::State;
+
+// The fuel that the named tenant has left.
+fn left_of(s: State, who: u8) -> Left {
+    if manager::meters::is_tenant(who) {
+        let m = manager::meters::meter_of(s, who);
+        let units = m.fuel;
+        return Left::Fuel(units);
+    }
+    Left::Nobody
+}
+
+// Writes the bytes of a line.
+fn put(l: Line)
+    requires { ⌜ l .len ≤ 64 ⌝ }
+{
+    let n = l.len;
+    let bytes = l.bytes;
+    io::write_all(STDOUT_FILENO, &bytes[..n]);
+}
+
+// Prints what a call came to, and hands on the state after it. Open and Pick name no tenant, and give 0.
+fn told(number: u32, name: Name, who: u8, o: Outcome) -> State
+    requires { ⌜ Sound (o .state) ⌝ }
+    ensures { λ r. ⌜ Sound r ⌝ }
+{
+    let next = o.state;
+    let answer = o.answer;
+    let left = left_of(next, who);
+    let line = listing::line_of(number, name, answer, o.burnt, left);
+    put(line);
+    next
+}
+
+fn open(number: u32, shares: &[u8]) -> State
+    ensures { λ r. ⌜ Sound r ⌝ }
+{
+    let o = manager::open::open(shares);
+    told(number, Name::Open, 0, o)
+}
+
+fn grant(number: u32, s: State, who: u8, amount: u32) -> State
+    requires { ⌜ Sound s ⌝ }
+    ensures { λ r. ⌜ Sound r ⌝ }
+{
+    let o = manager::grant::grant(s, who, amount);
+    told(number, Name::Grant, who, o)
+}
+
+fn begin(number: u32, s: State, who: u8, awaited: u8, reads: &[u8], writes: &[u8]) -> State
+    requires { ⌜ Sound s ⌝ }
+    ensures { λ r. ⌜ Sound r ⌝ }
+{
+    let o = manager::begin::begin(s, who, awaited, reads, writes);
+    told(number, Name::Begin, who, o)
+}
+
+fn finish(number: u32, s: State, who: u8, serial: u16) -> State
+    requires { ⌜ Sound s ⌝ }
+    ensures { λ r. ⌜ Sound r ⌝ }
+{
+    let o = manager::finish::finish(s, who, serial);
+    told(number, Name::Finish, who, o)
+}
+
+fn recheck(number: u32, s: State, who: u8, serial: u16) -> State
+    requires { ⌜ Sound s ⌝ }
+    ensures { λ r. ⌜ Sound r ⌝ }
+{
+    let o = manager::recheck::recheck(s, who, serial);
+    told(number, Name::Recheck, who, o)
+}
+
+fn scan(number: u32, s: State, who: u8) -> State
+    requires { ⌜ Sound s ⌝ }
+    ensures { λ r. ⌜ Sound r ⌝ }
+{
+    let o = manager::scan::scan(s, who);
+    told(number, Name::Scan, who, o)
+}
+
+fn pick(number: u32, s: State) -> State
+    requires { ⌜ Sound s ⌝ }
+    ensures { λ r. ⌜ Sound r ⌝ }
+{
+    let o = manager::pick::pick(s);
+    told(number, Name::Pick, 0, o)
+}
+
+fn deliver(number: u32, s: State, who: u8, serial: u16) -> State
+    requires { ⌜ Sound s ⌝ }
+    ensures { λ r. ⌜ Sound r ⌝ }
+{
+    let o = manager::deliver::deliver(s, who, serial);
+    told(number, Name::Deliver, who, o)
+}
+
+// One request of tenant 1 without records comes and goes. No line is printed.
+fn round(s: State, serial: u16) -> State
+    requires { ⌜ Sound s ⌝ }
+    ensures { λ r. ⌜ Sound r ⌝ }
+{
+    let begun = manager::begin::begin(s, 1, 0, &[], &[]);
+    let running = begun.state;
+    let ended = manager::finish::finish(running, 1, serial);
+    ended.state
+}
+
+fn rounds(s: State) -> State
+    requires { ⌜ Sound s ⌝ }
+    ensures { λ r. ⌜ Sound r ⌝ }
+{
+    let mut now = s;
+    let mut serial: u16 = 0;
+    while serial < 65_535 {
+        serial += 1;
+        now = round(now, serial);
+    }
+    now
+}
+
+// Requests that run and that are blocked: found clear by a recheck, and by a search.
+fn calls() -> State
+    ensures { λ r. ⌜ Sound r ⌝ }
+{
+    let s = open(1, &[2, 2, 0, 0, 0, 0, 0, 0, 0, 0, 0, 0, 0, 0, 0, 0]);
+    let s = grant(2, s, 1, 40);
+    let s = grant(3, s, 2, 40);
+    let s = begin(4, s, 1, 0, &[], &[10]);
+    let s = begin(5, s, 1, 0, &[], &[11]);
+    let s = begin(6, s, 2, 0, &[], &[10, 12]);
+    let s = begin(7, s, 2, 0, &[], &[12]);
+    let s = recheck(8, s, 2, 1);
+    let s = finish(9, s, 1, 1);
+    let s = scan(10, s, 2);
+    let s = recheck(11, s, 2, 2);
+    let s = finish(12, s, 2, 1);
+    let s = recheck(13, s, 2, 2);
+    finish(14, s, 2, 2)
+}
+
+// Requests that wait for remote answers, and a blocked front that is picked.
+fn remote(s: State) -> State
+    requires { ⌜ Sound s ⌝ }
+    ensures { λ r. ⌜ Sound r ⌝ }
+{
+    let s = begin(15, s, 1, 2, &[5], &[]);
+    let s = begin(16, s, 2, 1, &[], &[5, 6]);
+    let s = deliver(17, s, 2, 3);
+    let s = deliver(18, s, 1, 3);
+    let s = deliver(19, s, 1, 3);
+    let s = pick(20, s);
+    let s = finish(21, s, 1, 2);
+    let s = scan(22, s, 1);
+    let s = finish(23, s, 1, 3);
+    let s = pick(24, s);
+    let s = scan(25, s, 2);
+    pick(26, s)
+}
+
+// Searches that their fuel cuts short, at the first entry and further on.
+fn short(s: State) -> State
+    requires { ⌜ Sound s ⌝ }
+    ensures { λ r. ⌜ Sound r ⌝ }
+{
+    let s = begin(27, s, 1, 0, &[], &[1, 2, 3, 4, 5, 6, 7, 8]);
+    let s = grant(28, s, 3, 2);
+    let s = scan(29, s, 3);
+    let s = scan(30, s, 3);
+    let s = scan(31, s, 3);
+    let s = grant(32, s, 3, 12);
+    let s = scan(33, s, 3);
+    let s = scan(34, s, 1);
+    let s = grant(35, s, 1, 40);
+    let s = finish(36, s, 2, 3);
+    scan(37, s, 1)
+}
+
+// Refusals 1 and 2: no such tenant, and no fuel.
+fn strangers() -> State
+    ensures { λ r. ⌜ Sound r ⌝ }
+{
+    let s = open(38, &[2, 2, 1, 0, 0, 0, 0, 0, 0, 0, 0, 0, 0, 0, 0, 0]);
+    let s = grant(39, s, 0, 5);
+    let s = grant(40, s, 17, 5);
+    let s = grant(41, s, 255, 5);
+    let s = begin(42, s, 0, 0, &[], &[]);
+    let s = begin(43, s, 17, 0, &[], &[9]);
+    let s = finish(44, s, 255, 1);
+    let s = recheck(45, s, 0, 1);
+    let s = scan(46, s, 17);
+    let s = deliver(47, s, 255, 1);
+    let s = begin(48, s, 1, 0, &[], &[]);
+    let s = finish(49, s, 1, 1);
+    let s = recheck(50, s, 1, 1);
+    scan(51, s, 1)
+}
+
+// Refusals 3 to 6: lists of 9 and of 200 records, lists that do not rise or that meet, too many answers.
+fn lists(s: State) -> State
+    requires { ⌜ Sound s ⌝ }
+    ensures { λ r. ⌜ Sound r ⌝ }
+{
+    let s = grant(52, s, 1, 30);
+    let s = begin(53, s, 1, 0, &[1, 2, 3, 4, 5, 6, 7, 8, 9], &[]);
+    let s = begin(54, s, 1, 0, &[], &[1, 2, 3, 4, 5, 6, 7, 8, 9]);
+    let s = begin(55, s, 1, 0, &[7; 200], &[]);
+    let s = begin(56, s, 1, 0, &[], &[7; 200]);
+    let s = begin(57, s, 1, 0, &[], &[7, 7]);
+    let s = begin(58, s, 1, 0, &[9, 3], &[]);
+    let s = begin(59, s, 1, 0, &[7], &[7]);
+    let s = begin(60, s, 1, 16, &[], &[]);
+    begin(61, s, 1, 255, &[], &[])
+}
+
+// Refusals 7, 10, 11 and 12: no place left, no such entry, an entry in another state, no answer due.
+fn entries(s: State) -> State
+    requires { ⌜ Sound s ⌝ }
+    ensures { λ r. ⌜ Sound r ⌝ }
+{
+    let s = begin(62, s, 1, 0, &[], &[1]);
+    let s = begin(63, s, 1, 0, &[], &[1]);
+    let s = begin(64, s, 1, 0, &[], &[]);
+    let s = grant(65, s, 4, 1);
+    let s = begin(66, s, 4, 0, &[], &[]);
+    let s = finish(67, s, 1, 2);
+    let s = recheck(68, s, 1, 1);
+    let s = finish(69, s, 1, 9);
+    let s = recheck(70, s, 1, 9);
+    let s = deliver(71, s, 1, 9);
+    deliver(72, s, 1, 1)
+}
+
+// Refusals 9 and 13: too little fuel, and too much.
+fn poor(s: State) -> State
+    requires { ⌜ Sound s ⌝ }
+    ensures { λ r. ⌜ Sound r ⌝ }
+{
+    let s = finish(73, s, 1, 1);
+    let s = begin(74, s, 1, 0, &[1, 2, 3, 4], &[5, 6, 7, 8]);
+    let s = grant(75, s, 3, 5);
+    let s = begin(76, s, 3, 0, &[], &[1]);
+    let s = recheck(77, s, 3, 1);
+    let s = recheck(78, s, 3, 1);
+    let s = grant(79, s, 2, 1_000_000_000);
+    let s = grant(80, s, 2, 1);
+    grant(81, s, 2, 4_294_967_295)
+}
+
+// Refusal 14, by shares that no file can hold too: 15 of them, 17, none, and a sum of 65.
+fn openings() -> State
+    ensures { λ r. ⌜ Sound r ⌝ }
+{
+    let s = open(82, &[4; 15]);
+    let s = open(83, &[1; 17]);
+    let s = open(84, &[]);
+    let s = open(85, &[5, 4, 4, 4, 4, 4, 4, 4, 4, 4, 4, 4, 4, 4, 4, 4]);
+    let s = grant(86, s, 1, 5);
+    let s = begin(87, s, 1, 0, &[], &[]);
+    let s = open(88, &[4; 16]);
+    let s = grant(89, s, 16, 4);
+    let s = begin(90, s, 16, 0, &[], &[255]);
+    finish(91, s, 16, 1)
+}
+
+// All 65,535 serials of a tenant, by as many rounds, and refusal 8.
+fn numbered() -> State
+    ensures { λ r. ⌜ Sound r ⌝ }
+{
+    let s = open(92, &[2, 2, 0, 0, 0, 0, 0, 0, 0, 0, 0, 0, 0, 0, 0, 0]);
+    let s = grant(93, s, 1, 200_000);
+    let s = rounds(s);
+    begin(94, s, 1, 0, &[], &[])
+}
+
+// The calls go on for all others.
+fn afterwards(s: State) -> State
+    requires { ⌜ Sound s ⌝ }
+    ensures { λ r. ⌜ Sound r ⌝ }
+{
+    let s = scan(95, s, 1);
+    let s = begin(96, s, 1, 0, &[], &[20]);
+    let s = finish(97, s, 1, 65_535);
+    let s = recheck(98, s, 1, 65_535);
+    let s = deliver(99, s, 1, 65_535);
+    let s = pick(100, s);
+    let s = grant(101, s, 2, 40);
+    let s = begin(102, s, 2, 0, &[20], &[]);
+    let s = begin(103, s, 2, 1, &[], &[20]);
+    let s = recheck(104, s, 2, 2);
+    let s = scan(105, s, 2);
+    let s = finish(106, s, 2, 1);
+    let s = scan(107, s, 2);
+    let s = deliver(108, s, 2, 2);
+    finish(109, s, 2, 2)
+}
+
+fn main() {
+    put(listing::header());
+    let s = calls();
+    let s = remote(s);
+    short(s);
+    let s = strangers();
+    let s = lists(s);
+    let s = entries(s);
+    poor(s);
+    openings();
+    let s = numbered();
+    afterwards(s);
+}
