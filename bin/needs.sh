@@ -23,3 +23,18 @@ needs_rt() {
 needs_cargo() {
     command -v cargo >/dev/null 2>&1 || package cargo
 }
+
+# needs_x86_64: where the processor is another, Debian's Rust for x86-64 and an emulator for what it builds
+needs_x86_64() {
+    local name missing=()
+    [ "$(uname -m)" != x86_64 ] || return 0
+    for name in rustc-web libstd-rust-web-dev:amd64 gcc-x86-64-linux-gnu libc6-dev-amd64-cross qemu-user; do
+        [ "$(dpkg-query -W -f '${db:Status-Status}' "$name" 2>/dev/null)" = installed ] || missing+=("$name")
+    done
+    [ "${#missing[@]}" -gt 0 ] || return 0
+    if [ "$(id -u)" -ne 0 ]; then
+        fail "missing Debian packages: ${missing[*]} (after dpkg --add-architecture amd64 install them, or run this as root)"
+    fi
+    dpkg --add-architecture amd64
+    package "${missing[@]}"
+}

@@ -2,8 +2,10 @@
 //!
 //! - `encode`: one record to bytes.
 //! - `text`: readable text to bytes; `back`: bytes to readable text.
-//! - `kinds`: the kinds of generated file. Each is made with `random` (the
-//!   numbers) and `sheet` (the file so far with the state it leads to).
+//! - `kinds`: the kinds of generated file, and `long`: long files to measure
+//!   with. Each is made with `random` (the numbers) and `sheet` (the file so far
+//!   with the state it leads to).
+//! - `show`: a listing with the state after each call.
 
 pub mod back;
 mod boundary;
@@ -11,8 +13,10 @@ mod damaged;
 pub mod encode;
 pub mod kinds;
 mod load;
+pub mod long;
 pub mod random;
 mod refusals;
 mod sheet;
+pub mod show;
 pub mod text;
 mod worst;

@@ -39,6 +39,13 @@ impl fmt::Display for WrongLine {
     }
 }
 
+/// Whether an input is text, by its first byte: a blank, a line end or another
+/// printable character of ASCII. Any other input is an event file, and so is
+/// an empty one. A record begins with its tag, 01 to 08.
+pub fn is_text(input: &[u8]) -> bool {
+    matches!(input.first(), Some(b'\t' | b'\n' | b'\r' | b' '..=b'~'))
+}
+
 /// The event bytes of a text, or its first wrong line.
 pub fn to_bytes(text: &[u8]) -> Result<Vec<u8>, WrongLine> {
     let mut out = Vec::new();

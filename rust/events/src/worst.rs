@@ -17,7 +17,7 @@ pub fn worst(random: &mut Random) -> Vec<u8> {
     for tenant in owners(&shares) {
         sheet.grant(tenant, random.between(20_000, 1_000_000) as u32);
     }
-    let shape = random.one_of(&[hot, chained, scattered]);
+    let shape = random.one_of::<Shape>(&[hot, chained, scattered]);
     fill(random, &mut sheet, shape);
     for tenant in BARE_TENANTS {
         scan_to_the_unit(random, &mut sheet, tenant);

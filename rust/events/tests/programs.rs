@@ -1,7 +1,10 @@
-//! The programs `eventgen` and `eventtext` themselves.
+//! The programs `eventgen`, `eventtext` and `eventshow` themselves.
 
 use events::kinds::{generate, KINDS};
+use events::long::{long, LONG};
+use std::fs;
 use std::io::Write;
+use std::path::PathBuf;
 use std::process::{Command, Output, Stdio};
 
 fn run(program: &str, arguments: &[&str], input: &[u8]) -> Output {
@@ -55,15 +58,28 @@ fn eventgen_writes_the_file_of_a_seed() {
             );
         }
     }
+    for (name, _) in LONG {
+        assert_eq!(Some(succeeded(eventgen(&["6", name]))), long(name, 6));
+    }
+}
+
+#[test]
+fn eventgen_names_its_kinds() {
+    let names = "mixed\ndeep\nscarce\nremote\nrefusals\nworst\ndamaged\nboundary\n";
+    assert_eq!(succeeded(eventgen(&["--kinds"])), names.as_bytes());
 }
 
 #[test]
 fn eventgen_names_the_kinds_when_it_is_called_wrongly() {
-    let kinds = "KIND is one of: mixed, deep, scarce, remote, refusals, worst, damaged, boundary\n";
+    let kinds = "KIND is one of: mixed, deep, scarce, remote, refusals, worst, damaged, boundary; \
+                 to measure with: long-scans, long-queues, long-picks\n";
     let wrong: [(&[&str], &str); 7] = [
-        (&[], "usage: eventgen SEED KIND"),
-        (&["1"], "usage: eventgen SEED KIND"),
-        (&["1", "mixed", "2"], "usage: eventgen SEED KIND"),
+        (&[], "usage: eventgen SEED KIND, or eventgen --kinds\n"),
+        (&["1"], "usage: eventgen SEED KIND, or eventgen --kinds\n"),
+        (
+            &["1", "mixed", "2"],
+            "usage: eventgen SEED KIND, or eventgen --kinds\n",
+        ),
         (&["1", "mexed"], "unknown kind \"mexed\""),
         (&["one", "mixed"], "the seed \"one\" is not a number"),
         (&["+1", "mixed"], "the seed \"+1\" is not a number"),
@@ -97,13 +113,93 @@ fn eventtext_writes_nothing_for_a_wrong_line() {
     assert_eq!(message, "line 2: byte 1 (hex fe) is not UTF-8 text\n");
 }
 
+/// A file is text by its first byte, and an event file if it is empty.
 #[test]
-fn eventtext_knows_one_flag() {
-    let wrong: [&[&str]; 3] = [&["--forth"], &["--back", "--back"], &["file"]];
+fn eventtext_takes_either() {
+    let either = |input: &[u8]| succeeded(eventtext(&["--either"], input));
+    let open = succeeded(eventtext(&[], b"open 2 2"));
+    for text in [
+        "open 2 2",
+        "# two\nopen 2 2\n",
+        "\n\topen 2 2",
+        "\r\n open 2 2",
+    ] {
+        assert_eq!(either(text.as_bytes()), open, "{:?}", text);
+    }
+    assert_eq!(either(b"# nothing\n"), b"");
+    let files: [&[u8]; 7] = [b"", &open, b"\x01", b"\x08", b"\0", b"\x7F", b"\xFFpick\n"];
+    for file in files {
+        assert_eq!(either(file), file, "{:?}", file);
+    }
+    let message = failed(eventtext(&["--either"], b"open 2 2\nraw 100\n"));
+    assert_eq!(message, "line 2: \"100\" is not a byte of two hex digits\n");
+}
+
+#[test]
+fn eventtext_knows_two_flags() {
+    let wrong: [&[&str]; 3] = [&["--forth"], &["--back", "--either"], &["file"]];
     for arguments in wrong {
         assert_eq!(
             failed(eventtext(arguments, b"")),
-            "usage: eventtext [--back]\n"
+            "usage: eventtext [--back | --either]\n"
         );
     }
+}
+
+/// Two files in a folder of their own, and `eventshow` on them.
+fn eventshow(folder: &str, events: &[u8], listing: &str) -> Output {
+    let folder = PathBuf::from(env!("CARGO_TARGET_TMPDIR")).join(folder);
+    fs::create_dir_all(&folder).expect("a folder for this test");
+    let (events_file, listing_file) = (folder.join("events"), folder.join("listing"));
+    fs::write(&events_file, events).expect("a file");
+    fs::write(&listing_file, listing).expect("a file");
+    let names = [
+        events_file.to_string_lossy(),
+        listing_file.to_string_lossy(),
+    ];
+    run(
+        env!("CARGO_BIN_EXE_eventshow"),
+        &[&names[0], &names[1]],
+        b"",
+    )
+}
+
+#[test]
+fn eventshow_shows_the_state_below_each_line() {
+    let events = succeeded(eventtext(&[], b"open\npick\n"));
+    let shown = succeeded(eventshow("same", &events, &second::listing(&events)));
+    let wanted = "no call answer burnt left\n1 open ok 0 -\n    queue empty\n\
+                  2 pick nothing 0 -\n    queue empty\n";
+    assert_eq!(String::from_utf8_lossy(&shown), wanted);
+}
+
+#[test]
+fn eventshow_ends_with_1_where_the_programs_differ() {
+    let events = succeeded(eventtext(&[], b"open\npick\n"));
+    let changed = second::listing(&events).replace("nothing", "free:1.1");
+    let output = eventshow("changed", &events, &changed);
+    assert_eq!(output.status.code(), Some(1));
+    let shown = String::from_utf8_lossy(&output.stdout).into_owned();
+    let mark =
+        "\n2 pick free:1.1 0 -\n  DIFFERENT: the second program has \"2 pick nothing 0 -\\n\"\n";
+    assert!(shown.contains(mark), "{}", shown);
+    assert_eq!(
+        String::from_utf8_lossy(&output.stderr),
+        "the second program differs from the proved listing in 1 line(s), marked DIFFERENT\n"
+    );
+}
+
+#[test]
+fn eventshow_needs_two_files() {
+    let program = env!("CARGO_BIN_EXE_eventshow");
+    assert_eq!(
+        failed(run(program, &["one"], b"")),
+        "usage: eventshow EVENTS LISTING\n"
+    );
+    let message = failed(run(program, &["no-such-file", "none"], b""));
+    assert!(
+        message.starts_with("eventshow: no-such-file: "),
+        "{}",
+        message
+    );
 }

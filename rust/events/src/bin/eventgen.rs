@@ -1,6 +1,8 @@
-//! `eventgen SEED KIND` writes the event file of a seed.
+//! `eventgen SEED KIND` writes the event file of a seed; `eventgen --kinds`
+//! names the kinds, one a line, without the long files.
 
-use events::kinds::{generate, Kind};
+use events::kinds::{generate, Kind, KINDS};
+use events::long::{long, LONG};
 use std::io::{self, Write};
 use std::process::ExitCode;
 
@@ -9,8 +11,7 @@ fn main() -> ExitCode {
         .skip(1)
         .map(|argument| argument.to_string_lossy().into_owned())
         .collect();
-    let written = parse(&arguments).and_then(|(seed, kind)| write(&generate(seed, kind)));
-    match written {
+    match file(&arguments).and_then(|bytes| write(&bytes)) {
         Ok(()) => ExitCode::SUCCESS,
         Err(what) => {
             eprintln!("eventgen: {}", what);
@@ -19,16 +20,22 @@ fn main() -> ExitCode {
     }
 }
 
-fn parse(arguments: &[String]) -> Result<(u64, Kind), String> {
-    let (seed, kind) = match arguments {
-        [seed, kind] => (seed, kind),
-        _ => return Err(format!("usage: eventgen SEED KIND\n{}", known_kinds())),
+fn file(arguments: &[String]) -> Result<Vec<u8>, String> {
+    let (seed, name) = match arguments {
+        [flag] if flag == "--kinds" => return Ok(kinds().into_bytes()),
+        [seed, name] => (parse_seed(seed)?, name),
+        _ => {
+            return Err(format!(
+                "usage: eventgen SEED KIND, or eventgen --kinds\n{}",
+                known_kinds()
+            ))
+        }
     };
-    let seed = parse_seed(seed)?;
-    match Kind::named(kind) {
-        Some(kind) => Ok((seed, kind)),
-        None => Err(format!("unknown kind \"{}\"\n{}", kind, known_kinds())),
-    }
+    let bytes = match Kind::named(name) {
+        Some(kind) => Some(generate(seed, kind)),
+        None => long(name, seed),
+    };
+    bytes.ok_or_else(|| format!("unknown kind \"{}\"\n{}", name, known_kinds()))
 }
 
 fn parse_seed(word: &str) -> Result<u64, String> {
@@ -44,8 +51,20 @@ fn parse_seed(word: &str) -> Result<u64, String> {
     }
 }
 
+fn kinds() -> String {
+    KINDS
+        .iter()
+        .map(|(name, _)| format!("{}\n", name))
+        .collect()
+}
+
 fn known_kinds() -> String {
-    format!("KIND is one of: {}", Kind::names())
+    let long: Vec<&str> = LONG.iter().map(|(name, _)| *name).collect();
+    format!(
+        "KIND is one of: {}; to measure with: {}",
+        Kind::names(),
+        long.join(", ")
+    )
 }
 
 fn write(bytes: &[u8]) -> Result<(), String> {

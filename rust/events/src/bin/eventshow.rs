@@ -1,0 +1,48 @@
+//! `eventshow EVENTS LISTING` prints a proved listing with the state after
+//! each call below its line. The exit status is 1 where the second program
+//! would have written another line.
+
+use events::show::show;
+use std::fs;
+use std::io::{self, BufWriter, Write};
+use std::process::ExitCode;
+
+fn main() -> ExitCode {
+    let arguments: Vec<String> = std::env::args_os()
+        .skip(1)
+        .map(|argument| argument.to_string_lossy().into_owned())
+        .collect();
+    match run(&arguments) {
+        Ok(()) => ExitCode::SUCCESS,
+        Err(what) => {
+            eprintln!("{}", what);
+            ExitCode::FAILURE
+        }
+    }
+}
+
+fn run(arguments: &[String]) -> Result<(), String> {
+    let (events, listing) = match arguments {
+        [events, listing] => (read(events)?, read(listing)?),
+        _ => return Err(String::from("usage: eventshow EVENTS LISTING")),
+    };
+    match write(&events, &listing) {
+        Ok(0) => Ok(()),
+        Ok(different) => Err(format!(
+            "the second program differs from the proved listing in {} line(s), marked DIFFERENT",
+            different
+        )),
+        Err(error) => Err(format!("eventshow: {}", error)),
+    }
+}
+
+fn read(name: &str) -> Result<Vec<u8>, String> {
+    fs::read(name).map_err(|error| format!("eventshow: {}: {}", name, error))
+}
+
+fn write(events: &[u8], listing: &[u8]) -> io::Result<usize> {
+    let mut out = BufWriter::new(io::stdout());
+    let different = show(events, listing, &mut out)?;
+    out.flush()?;
+    Ok(different)
+}

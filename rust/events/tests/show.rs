@@ -1,0 +1,221 @@
+//! The view of `eventshow`: the queue, the counters and the meters below each
+//! line, and what is said where the two programs differ.
+
+mod common;
+
+use common::batch;
+use events::show::show;
+use events::text::to_bytes;
+use second::listing;
+
+fn shown(events: &[u8], proved: &str) -> (String, usize) {
+    let mut out = Vec::new();
+    let different = show(events, proved.as_bytes(), &mut out).expect("memory takes it");
+    (String::from_utf8(out).expect("text"), different)
+}
+
+fn file(text: &str) -> Vec<u8> {
+    to_bytes(text.as_bytes()).expect("a right text")
+}
+
+/// The view of a text's calls along their own listing.
+fn view(text: &str) -> String {
+    let events = file(text);
+    let (shown, different) = shown(&events, &listing(&events));
+    assert_eq!(different, 0);
+    shown
+}
+
+#[test]
+fn a_queue_with_its_counters() {
+    let text = "open 2 2\ngrant 1 40\ngrant 2 40\nbegin 1 writes 10\nbegin 2 reads 11 writes 10\n\
+                begin 1 reads 9 11\nfinish 1 1\n";
+    let wanted = "\
+no call answer burnt left
+1 open ok 0 -
+    queue empty
+    fuel 1=0 2=0, places 1=0/2 2=0/2
+2 grant ok 0 40
+    queue empty
+    fuel 1=40 2=0, places 1=0/2 2=0/2
+3 grant ok 0 40
+    queue empty
+    fuel 1=40 2=40, places 1=0/2 2=0/2
+4 begin free:1.1 4 36
+    front 1.1 free writes 10
+    Cx 10=1
+    fuel 1=36 2=40, places 1=1/2 2=0/2
+5 begin blocked:2.1 6 34
+    front 1.1 free             writes 10
+          2.1 blocked reads 11 writes 10
+    Cx 10=2
+    Cs 11=1
+    fuel 1=36 2=34, places 1=1/2 2=1/2
+6 begin free:1.2 6 30
+    front 1.1 free               writes 10
+          2.1 blocked reads 11   writes 10
+          1.2 free    reads 9 11
+    Cx 10=2
+    Cs 9=1 11=2
+    fuel 1=30 2=34, places 1=2/2 2=1/2
+7 finish done 0 30
+    front 2.1 blocked reads 11   writes 10
+          1.2 free    reads 9 11
+    Cx 10=1
+    Cs 9=1 11=2
+    fuel 1=30 2=34, places 1=1/2 2=1/2
+";
+    assert_eq!(view(text), wanted);
+}
+
+#[test]
+fn awaited_answers_and_long_names() {
+    let text = "open 0 0 0 0 0 0 0 0 0 3 1\ngrant 10 40\ngrant 4 9\n\
+                begin 10\nbegin 10 awaited 12 writes 3\nbegin 11\ndeliver 10 2\n";
+    let last = view(text);
+    let last = &last[last.find("7 deliver").expect("the last line")..];
+    let wanted = "\
+7 deliver waiting:10.2 0 34
+    front 10.1 free
+          10.2 waiting awaited 12 due 11 writes 3
+    Cx 3=1
+    fuel 4=9 10=34 11=0, places 4=0/0 10=2/3 11=0/1
+";
+    assert_eq!(last, wanted);
+}
+
+#[test]
+fn a_refused_open_and_a_refused_file() {
+    let wanted = "\
+no call answer burnt left
+1 open refused:14 0 -
+    queue empty
+2 pick nothing 0 -
+    queue empty
+3 file refused:20 0 -
+";
+    assert_eq!(view("open 65\npick\nraw ff ff ff\n"), wanted);
+    assert_eq!(view(""), "no call answer burnt left\n");
+}
+
+/// Without the views, what is shown is the proved listing.
+#[test]
+fn the_lines_are_those_of_the_listing() {
+    for (name, events) in batch(6) {
+        let proved = listing(&events);
+        let (shown, different) = shown(&events, &proved);
+        assert_eq!(different, 0, "{}", name);
+        let lines = shown.lines().filter(|line| !line.starts_with("    "));
+        assert!(lines.eq(proved.lines()), "{}", name);
+    }
+}
+
+const CALLS: &str = "open 1\ngrant 1 4\nbegin 1\n";
+const HEADER: &str = "no call answer burnt left\n";
+const OPEN: &str = "1 open ok 0 -\n";
+const OPENED: &str = "    queue empty\n    fuel 1=0, places 1=0/1\n";
+const GRANT: &str = "2 grant ok 0 4\n";
+const GRANTED: &str = "    queue empty\n    fuel 1=4, places 1=0/1\n";
+const BEGIN: &str = "3 begin free:1.1 2 2\n";
+const BEGUN: &str = "    front 1.1 free\n    fuel 1=2, places 1=1/1\n";
+
+/// A changed listing of `CALLS`, what must be shown, and how many lines differ.
+fn check(proved: &[&str], wanted: &[&str], different: usize) {
+    let events = file(CALLS);
+    let found = shown(&events, &proved.concat());
+    assert_eq!(found, (wanted.concat(), different));
+}
+
+#[test]
+fn the_same_listing() {
+    check(
+        &[HEADER, OPEN, GRANT, BEGIN],
+        &[HEADER, OPEN, OPENED, GRANT, GRANTED, BEGIN, BEGUN],
+        0,
+    );
+}
+
+#[test]
+fn a_line_that_differs() {
+    check(
+        &[HEADER, OPEN, "2 grant ok 0 0\n", BEGIN],
+        &[
+            HEADER,
+            OPEN,
+            OPENED,
+            "2 grant ok 0 0\n  DIFFERENT: the second program has \"2 grant ok 0 4\\n\"\n",
+            GRANTED,
+            BEGIN,
+            BEGUN,
+        ],
+        1,
+    );
+}
+
+#[test]
+fn a_header_that_differs() {
+    check(
+        &["No call answer burnt left\n", OPEN, GRANT, BEGIN],
+        &[
+            "No call answer burnt left\n",
+            "  DIFFERENT: the second program has \"no call answer burnt left\\n\"\n",
+            OPEN,
+            OPENED,
+            GRANT,
+            GRANTED,
+            BEGIN,
+            BEGUN,
+        ],
+        1,
+    );
+}
+
+#[test]
+fn lines_that_are_missing() {
+    check(
+        &[HEADER, OPEN],
+        &[
+            HEADER,
+            OPEN,
+            OPENED,
+            "  DIFFERENT: no line; the second program has \"2 grant ok 0 4\\n\"\n",
+            GRANTED,
+            "  DIFFERENT: no line; the second program has \"3 begin free:1.1 2 2\\n\"\n",
+            BEGUN,
+        ],
+        2,
+    );
+}
+
+#[test]
+fn lines_too_many_and_a_line_feed_too_few() {
+    check(
+        &[HEADER, OPEN, GRANT, BEGIN, "4 pick nothing 0 -\n", "5"],
+        &[
+            HEADER,
+            OPEN,
+            OPENED,
+            GRANT,
+            GRANTED,
+            BEGIN,
+            BEGUN,
+            "4 pick nothing 0 -\n  DIFFERENT: the second program has no such line\n",
+            "5\n  DIFFERENT: the second program has no such line\n",
+        ],
+        2,
+    );
+    check(
+        &[HEADER, OPEN, GRANT, BEGIN.trim_end()],
+        &[
+            HEADER,
+            OPEN,
+            OPENED,
+            GRANT,
+            GRANTED,
+            BEGIN,
+            "  DIFFERENT: the second program has \"3 begin free:1.1 2 2\\n\"\n",
+            BEGUN,
+        ],
+        1,
+    );
+}
