@@ -27,14 +27,16 @@ build_proved() {
         return
     fi
     echo "proving and building $1, with what is missing of its crates (the first run takes some minutes) ..."
-    began=$(mktemp)
+    # rt builds nothing that its stamp says is unchanged, not even a program that was removed
+    [ -f "$program" ] || rm -f "$root/target/stamp/$1"
     mkdir -p "$root/target"
-    if ! (cd "$root" && rt check "$1") </dev/null >"$log" 2>&1; then
+    began=$(mktemp)
+    if ! (cd "$root" && rt check "$1" && [ -f "$program" ]) </dev/null >"$log" 2>&1; then
         rm -f "$program" "$began"
         cat "$log"
-        fail "$1 is not proved"
+        fail "rt check $1"
     fi
-    # what was found unchanged is not built again, and a source changed meanwhile is newer than this
+    # an unchanged program was not built again, but checked now; what was changed since is newer
     touch -r "$began" "$program"
     rm -f "$began"
 }
