@@ -3,16 +3,18 @@
 
 use crate::random::Random;
 use crate::sheet::{Lists, Name, Sheet};
+use crate::worst::{hot, scattered, Shape};
 use second::reader::{HEAD_BYTES, MOST_BYTES};
 use second::table::{MOST_FUEL, TENANTS};
 use second::State;
 
 type Make = fn(&mut Random) -> Vec<u8>;
 
-pub const LONG: [(&str, Make); 3] = [
+pub const LONG: [(&str, Make); 4] = [
     ("long-scans", scans),
     ("long-queues", queues),
     ("long-picks", picks),
+    ("long-hot", hot_scans),
 ];
 
 /// The long file of that name and a seed, or nothing for another name.
@@ -24,16 +26,27 @@ pub fn long(name: &str, seed: u64) -> Option<Vec<u8>> {
 const PICK_BYTES: usize = HEAD_BYTES;
 const SCAN_BYTES: usize = HEAD_BYTES + 1;
 
+/// Scans over requests for any 16 records of all.
+fn scans(random: &mut Random) -> Vec<u8> {
+    scans_over(random, scattered)
+}
+
+/// Scans over requests that all write record 0: a program that compares pair
+/// by pair is done with each at the first pair.
+fn hot_scans(random: &mut Random) -> Vec<u8> {
+    scans_over(random, hot)
+}
+
 /// Scans over 64 entries of 16 records, all of the scanning tenant. None is
 /// promoted, so each scan burns 1,089.
-fn scans(random: &mut Random) -> Vec<u8> {
+fn scans_over(random: &mut Random, shape: Shape) -> Vec<u8> {
     let mut shares = [0; TENANTS];
     shares[0] = 64;
     let mut sheet = Sheet::open(shares);
     sheet.grant(1, MOST_FUEL);
-    let records: Vec<u8> = (0..=255).collect();
-    while sheet.table.queue.len() < 64 {
-        sheet.begin(1, 0, &Lists::drawn(random, &records, 8, 8));
+    for place in 0..64 {
+        let lists = shape(random, place);
+        sheet.begin(1, 0, &lists);
     }
     while sheet.len() + SCAN_BYTES <= MOST_BYTES {
         sheet.scan(1);

@@ -55,10 +55,10 @@ fn owners(shares: &Shares) -> Vec<u8> {
 }
 
 /// Lists of 8 reads and 8 writes for the request at some place of the queue.
-type Shape = fn(&mut Random, usize) -> Lists;
+pub type Shape = fn(&mut Random, usize) -> Lists;
 
 /// All write record 0, so that each conflicts with each.
-fn hot(random: &mut Random, _place: usize) -> Lists {
+pub fn hot(random: &mut Random, _place: usize) -> Lists {
     let pool: Vec<u8> = (1..=255).collect();
     let mut lists = Lists::drawn(random, &pool, 8, 7);
     lists.writes.push(0);
@@ -79,7 +79,7 @@ fn chained(_random: &mut Random, place: usize) -> Lists {
     }
 }
 
-fn scattered(random: &mut Random, _place: usize) -> Lists {
+pub fn scattered(random: &mut Random, _place: usize) -> Lists {
     let pool: Vec<u8> = (0..=255).collect();
     Lists::drawn(random, &pool, 8, 8)
 }

@@ -23,14 +23,16 @@ fn they_are_near_the_limit_and_good() {
 
 #[test]
 fn scans_are_the_dearest() {
-    let mut scans = 0;
-    walk(&made("long-scans"), |step| {
-        if let Event::Scan { .. } = step.event {
-            assert_eq!(step.outcome.burnt, 1_089);
-            scans += 1;
-        }
-    });
-    assert!(scans > 16_000, "{}", scans);
+    for name in ["long-scans", "long-hot"] {
+        let mut scans = 0;
+        walk(&made(name), |step| {
+            if let Event::Scan { .. } = step.event {
+                assert_eq!(step.outcome.burnt, 1_089, "{}", name);
+                scans += 1;
+            }
+        });
+        assert!(scans > 16_000, "{}: {}", name, scans);
+    }
 }
 
 #[test]

@@ -72,7 +72,7 @@ fn eventgen_names_its_kinds() {
 #[test]
 fn eventgen_names_the_kinds_when_it_is_called_wrongly() {
     let kinds = "KIND is one of: mixed, deep, scarce, remote, refusals, worst, damaged, boundary; \
-                 to measure with: long-scans, long-queues, long-picks\n";
+                 to measure with: long-scans, long-queues, long-picks, long-hot\n";
     let wrong: [(&[&str], &str); 7] = [
         (&[], "usage: eventgen SEED KIND, or eventgen --kinds\n"),
         (&["1"], "usage: eventgen SEED KIND, or eventgen --kinds\n"),
