@@ -11,9 +11,8 @@ use manager::State;
 
 // The fuel that the named tenant has left.
 fn left_of(s: State, who: u8) -> Left {
-    if manager::meters::is_tenant(who) {
-        let m = manager::meters::meter_of(s, who);
-        let units = m.fuel;
+    if manager::tenants::is_tenant(who) {
+        let units = manager::tenants::fuel_of(s, who);
         return Left::Fuel(units);
     }
     Left::Nobody

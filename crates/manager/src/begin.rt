@@ -14,6 +14,7 @@ ghost use Rattle.manager.specs.State.{view, Sound, Did};
 use super::meters;
 use super::places;
 use super::refusal;
+use super::tenants;
 use crate::Outcome;
 use crate::State;
 use entry::Entry;
@@ -33,7 +34,7 @@ fn refusal(s: State, who: u8, awaited: u8, reads: &[u8], writes: &[u8]) -> u8
     requires { ⌜ Sound s ⌝ }
     ensures { λ r. ⌜ r ≡ firstOf (beginRows clause9 (view s) (asked (view s) who awaited (now (reads .entry)) (now (writes .entry)))) ⌝ }
 {
-    if !meters::is_tenant(who) {
+    if !tenants::is_tenant(who) {
         return 1;
     }
     let m = meters::meter_of(s, who);

@@ -3,8 +3,8 @@ ghost use mathlib.Core.Path.{_≡_};
 ghost use Rattle.rules.specs.Refusals.{firstOf, deliverRows};
 ghost use Rattle.rules.specs.Calls.{deliverOf};
 ghost use Rattle.manager.specs.State.{view, Sound, Did};
-use super::meters;
 use super::places;
+use super::tenants;
 use crate::Outcome;
 use crate::State;
 use rules::Answer;
@@ -14,7 +14,7 @@ fn refusal(s: State, who: u8, serial: u16) -> u8
     requires { ⌜ Sound s ⌝ }
     ensures { λ r. ⌜ r ≡ firstOf (deliverRows (view s) who serial) ⌝ }
 {
-    if !meters::is_tenant(who) {
+    if !tenants::is_tenant(who) {
         return 1;
     }
     let q = s.queue;

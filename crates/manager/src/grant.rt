@@ -4,6 +4,7 @@ ghost use Rattle.rules.specs.Refusals.{firstOf, grantRows};
 ghost use Rattle.rules.specs.Calls.{grantOf};
 ghost use Rattle.manager.specs.State.{view, Sound, Did};
 use super::meters;
+use super::tenants;
 use crate::Outcome;
 use crate::State;
 use rules::Answer;
@@ -13,7 +14,7 @@ fn refusal(s: State, who: u8, amount: u32) -> u8
     requires { ⌜ Sound s ⌝ }
     ensures { λ r. ⌜ r ≡ firstOf (grantRows (view s) who amount) ⌝ }
 {
-    if !meters::is_tenant(who) {
+    if !tenants::is_tenant(who) {
         return 1;
     }
     let m = meters::meter_of(s, who);

@@ -8,13 +8,14 @@ pub mod begin;
 pub mod deliver;
 pub mod finish;
 pub mod grant;
-pub mod meters;
+mod meters;
 pub mod open;
 pub mod pick;
 mod places;
 pub mod recheck;
 mod refusal;
 pub mod scan;
+pub mod tenants;
 
 // The counters Cx and Cs of the records, the meters of the tenants 1 to 16, and the queue.
 pub struct State {

@@ -9,13 +9,6 @@ ghost use Rattle.manager.specs.State.{view, Tied, Becomes};
 use crate::State;
 use meter::Meter;
 
-// Tenants are 1 to 16.
-pub fn is_tenant(who: u8) -> bool
-    ensures { λ r. ⌜ r ≡ isTenant who ⌝ }
-{
-    1 <= who && who <= 16
-}
-
 // The meter of a tenant.
 pub fn meter_of(s: State, who: u8) -> Meter
     requires { ⌜ isTenant who ≡ true ⌝ }

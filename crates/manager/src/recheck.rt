@@ -7,6 +7,7 @@ ghost use Rattle.manager.specs.State.{view, Sound, Did};
 use super::meters;
 use super::places;
 use super::refusal;
+use super::tenants;
 use crate::Outcome;
 use crate::State;
 use rules::Answer;
@@ -16,7 +17,7 @@ fn refusal(s: State, who: u8, serial: u16) -> u8
     requires { ⌜ Sound s ⌝ }
     ensures { λ r. ⌜ r ≡ firstOf (recheckRows clause9 (view s) who serial) ⌝ }
 {
-    if !meters::is_tenant(who) {
+    if !tenants::is_tenant(who) {
         return 1;
     }
     let m = meters::meter_of(s, who);

@@ -5,6 +5,7 @@ ghost use Rattle.rules.specs.Table.{isTenant};
 ghost use Rattle.rules.specs.Prices.{clause9, charge as chargeOf};
 ghost use Rattle.manager.specs.State.{view, Sound, Did, refusedWith};
 use super::meters;
+use super::tenants;
 use crate::Outcome;
 use crate::State;
 use rules::Answer;
@@ -30,7 +31,7 @@ pub fn refused(s: State, who: u8, number: u8) -> Outcome
     requires { ⌜ (isTenant who ≡ false → number ≡ 1) ⌝ }
     ensures { λ r. ⌜ Did r (refusedWith (view s) who number) ⌝ }
 {
-    if !meters::is_tenant(who) {
+    if !tenants::is_tenant(who) {
         return Outcome {
             state: s,
             answer: Answer::Refused(number),

@@ -19,6 +19,7 @@ ghost use Rattle.manager.specs.Search.{mapsOf, Looked, Ended};
 use super::meters;
 use super::places;
 use super::refusal;
+use super::tenants;
 use crate::Outcome;
 use crate::State;
 use entry::Entry;
@@ -95,7 +96,7 @@ fn refusal(s: State, who: u8) -> u8
     requires { ⌜ Sound s ⌝ }
     ensures { λ r. ⌜ r ≡ firstOf (scanRows (view s) who) ⌝ }
 {
-    if !meters::is_tenant(who) {
+    if !tenants::is_tenant(who) {
         return 1;
     }
     let m = meters::meter_of(s, who);

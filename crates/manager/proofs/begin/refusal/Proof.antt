@@ -27,7 +27,7 @@ use Rattle.entry.proofs.meet.Reads as meet-reads
 use Rattle.entry.proofs.rises.Reads as rises-reads
 use Rattle.entry.proofs.too_many.Reads as too-many-reads
 use Rattle.manager.proofs.begin.price.Reads as price-reads
-use Rattle.manager.proofs.meters.is_tenant.Reads as is-tenant-reads
+use Rattle.manager.proofs.tenants.is_tenant.Reads as is-tenant-reads
 use Rattle.manager.proofs.meters.meter_of.Reads as meter-of-reads
 use Rattle.queue.proofs.places.Reads as places-reads
 

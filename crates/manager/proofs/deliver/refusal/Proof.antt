@@ -15,7 +15,7 @@ use Rattle.manager.proofs.deliver.refusal.Statement.{statement}
 use Rattle.manager.proofs.deliver.refusal.Tie as tie
 use Rattle.manager.proofs.deliver.refusal.Reads as reads
 use Rattle.manager.proofs.deliver.refusal.Lts as lts
-use Rattle.manager.proofs.meters.is_tenant.Reads as is-tenant-reads
+use Rattle.manager.proofs.tenants.is_tenant.Reads as is-tenant-reads
 use Rattle.queue.proofs.entry_at.Reads as entry-at-reads
 use Rattle.queue.proofs.find.Reads as find-reads
 

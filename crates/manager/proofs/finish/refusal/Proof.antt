@@ -18,7 +18,7 @@ use Rattle.manager.proofs.finish.refusal.Tie as tie
 use Rattle.manager.proofs.finish.refusal.Reads as reads
 use Rattle.manager.proofs.finish.refusal.Lts as lts
 use Rattle.entry.proofs.is_free.Reads as is-free-reads
-use Rattle.manager.proofs.meters.is_tenant.Reads as is-tenant-reads
+use Rattle.manager.proofs.tenants.is_tenant.Reads as is-tenant-reads
 use Rattle.manager.proofs.meters.meter_of.Reads as meter-of-reads
 use Rattle.queue.proofs.entry_at.Reads as entry-at-reads
 use Rattle.queue.proofs.find.Reads as find-reads

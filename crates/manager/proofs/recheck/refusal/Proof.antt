@@ -25,7 +25,7 @@ use Rattle.manager.proofs.recheck.refusal.Reads as reads
 use Rattle.manager.proofs.recheck.refusal.Lts as lts
 use Rattle.entry.proofs.is_blocked.Reads as is-blocked-reads
 use Rattle.entry.proofs.size.Reads as size-reads
-use Rattle.manager.proofs.meters.is_tenant.Reads as is-tenant-reads
+use Rattle.manager.proofs.tenants.is_tenant.Reads as is-tenant-reads
 use Rattle.manager.proofs.meters.meter_of.Reads as meter-of-reads
 use Rattle.queue.proofs.entry_at.Reads as entry-at-reads
 use Rattle.queue.proofs.find.Reads as find-reads

@@ -12,7 +12,7 @@ use Rattle.manager.proofs.refusal.refused.Statement.{statement}
 use Rattle.manager.proofs.refusal.refused.Tie as tie
 use Rattle.manager.proofs.refusal.refused.Reads as reads
 use Rattle.manager.proofs.refusal.refused.Lts as lts
-use Rattle.manager.proofs.meters.is_tenant.Reads as is-tenant-reads
+use Rattle.manager.proofs.tenants.is_tenant.Reads as is-tenant-reads
 use Rattle.manager.proofs.meters.meter_of.Reads as meter-of-reads
 use Rattle.manager.proofs.meters.paid.Reads as paid-reads
 use Rattle.manager.proofs.refusal.charge.Reads as charge-reads

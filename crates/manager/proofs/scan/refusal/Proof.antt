@@ -11,7 +11,7 @@ use Rattle.manager.proofs.scan.refusal.Statement.{statement}
 use Rattle.manager.proofs.scan.refusal.Tie as tie
 use Rattle.manager.proofs.scan.refusal.Reads as reads
 use Rattle.manager.proofs.scan.refusal.Lts as lts
-use Rattle.manager.proofs.meters.is_tenant.Reads as is-tenant-reads
+use Rattle.manager.proofs.tenants.is_tenant.Reads as is-tenant-reads
 use Rattle.manager.proofs.meters.meter_of.Reads as meter-of-reads
 
 is-one : (c : tie.Else1) → isTenant (c .before .before .args .who) ≡ true

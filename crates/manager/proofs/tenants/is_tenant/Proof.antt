@@ -1,9 +1,9 @@
 -- By whether the number is at least 1.
 use borrow.Author.Tests.{le-leb, lt-leb}
-use Rattle.manager.proofs.meters.is_tenant.Statement.{statement}
-use Rattle.manager.proofs.meters.is_tenant.Tie as tie
-use Rattle.manager.proofs.meters.is_tenant.Reads as reads
-use Rattle.manager.proofs.meters.is_tenant.Lts as lts
+use Rattle.manager.proofs.tenants.is_tenant.Statement.{statement}
+use Rattle.manager.proofs.tenants.is_tenant.Tie as tie
+use Rattle.manager.proofs.tenants.is_tenant.Reads as reads
+use Rattle.manager.proofs.tenants.is_tenant.Lts as lts
 
 returns : tie.Need-returns
 returns c = simp (le-leb _ _ (c .if1 .taken))
