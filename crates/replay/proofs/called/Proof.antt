@@ -1,0 +1,157 @@
+-- Each event's call: what the manager did of it is the law book's step.
+use borrow.Author.Needs.{needs}
+use Rattle.rules.specs.Runs.{step}
+use Rattle.manager.specs.State.{view}
+use Rattle.replay.proofs.Calls.{was-read, did-read}
+use Rattle.replay.proofs.called.Statement.{statement}
+use Rattle.replay.proofs.called.Tie as tie
+use Rattle.replay.proofs.called.Reads as reads
+use Rattle.replay.proofs.called.Lts as lts
+use Rattle.events.proofs.reads.Reads as reads-reads
+use Rattle.events.proofs.shares.Reads as shares-reads
+use Rattle.events.proofs.writes.Reads as writes-reads
+use Rattle.manager.proofs.begin.begin.Reads as begin-reads
+use Rattle.manager.proofs.deliver.deliver.Reads as deliver-reads
+use Rattle.manager.proofs.finish.finish.Reads as finish-reads
+use Rattle.manager.proofs.grant.grant.Reads as grant-reads
+use Rattle.manager.proofs.open.open.Reads as open-reads
+use Rattle.manager.proofs.pick.pick.Reads as pick-reads
+use Rattle.manager.proofs.recheck.recheck.Reads as recheck-reads
+use Rattle.manager.proofs.scan.scan.Reads as scan-reads
+
+enum-told : tie.Need-enum-told
+enum-told c = search needs
+
+shares-requires : tie.Need-shares-requires
+shares-requires c κs = was-read (c .before .before .before .pre .1) .inside
+
+open-requires : tie.Need-open-requires
+open-requires c κs = search needs
+
+enum-known-e : tie.Need-enum-known-e
+enum-known-e c = search needs
+
+grant-requires : tie.Need-grant-requires
+grant-requires c κs = search needs
+
+enum-known-e-2 : tie.Need-enum-known-e-2
+enum-known-e-2 c = search needs
+
+reads-requires : tie.Need-reads-requires
+reads-requires c κs = was-read (c .before .before .before .before .pre .1) .begins (c .before .e2 .given .1)
+
+writes-requires : tie.Need-writes-requires
+writes-requires c κs = was-read (c .before .before .before .before .before .pre .1) .begins (c .before .before .e2 .given .1)
+
+begin-requires : tie.Need-begin-requires
+begin-requires c κs = search needs
+
+enum-known-e-3 : tie.Need-enum-known-e-3
+enum-known-e-3 c = search needs
+
+finish-requires : tie.Need-finish-requires
+finish-requires c κs = search needs
+
+enum-known-e-4 : tie.Need-enum-known-e-4
+enum-known-e-4 c = search needs
+
+recheck-requires : tie.Need-recheck-requires
+recheck-requires c κs = search needs
+
+enum-known-e-5 : tie.Need-enum-known-e-5
+enum-known-e-5 c = search needs
+
+scan-requires : tie.Need-scan-requires
+scan-requires c κs = search needs
+
+enum-told-2 : tie.Need-enum-told-2
+enum-told-2 c = search needs
+
+pick-requires : tie.Need-pick-requires
+pick-requires c κs = search needs
+
+enum-known-e-6 : tie.Need-enum-known-e-6
+enum-known-e-6 c = search needs
+
+deliver-requires : tie.Need-deliver-requires
+deliver-requires c κs = search needs
+
+returns : tie.Need-returns
+unfolding step
+returns c = 
+    let s = c .before .before .before .before .before in
+    did-read (s .pre .1) (view (s .args .s)) _ (c .before .before .enum-told .given .1) (rw (c .before .shares .ensures) at (c .open .ensures))
+
+returns-2 : tie.Need-returns-2
+unfolding step
+returns-2 c = 
+    let s = c .before .before .before .before .before in
+    did-read (s .pre .1) (view (s .args .s)) _ (c .before .before .e .given .1) (c .grant .ensures)
+
+returns-3 : tie.Need-returns-3
+unfolding step
+returns-3 c = 
+    let s = c .before .before .before .before .before .before .before in
+    did-read (s .pre .1) (view (s .args .s)) _ (c .before .before .before .before .e2 .given .1) (rw (c .before .before .reads .ensures, c .before .writes .ensures) at (c .begin .ensures))
+
+returns-4 : tie.Need-returns-4
+unfolding step
+returns-4 c = 
+    let s = c .before .before .before .before .before in
+    did-read (s .pre .1) (view (s .args .s)) _ (c .before .before .e3 .given .1) (c .finish .ensures)
+
+returns-5 : tie.Need-returns-5
+unfolding step
+returns-5 c = 
+    let s = c .before .before .before .before .before in
+    did-read (s .pre .1) (view (s .args .s)) _ (c .before .before .e4 .given .1) (c .recheck .ensures)
+
+returns-6 : tie.Need-returns-6
+unfolding step
+returns-6 c = 
+    let s = c .before .before .before .before .before in
+    did-read (s .pre .1) (view (s .args .s)) _ (c .before .before .e5 .given .1) (c .scan .ensures)
+
+returns-7 : tie.Need-returns-7
+unfolding step
+returns-7 c = 
+    let s = c .before .before .before .before in
+    did-read (s .pre .1) (view (s .args .s)) _ (c .before .enum-told2 .given .1) (c .pick .ensures)
+
+returns-8 : tie.Need-returns-8
+unfolding step
+returns-8 c = 
+    let s = c .before .before .before .before .before in
+    did-read (s .pre .1) (view (s .args .s)) _ (c .before .before .e6 .given .1) (c .deliver .ensures)
+
+pub called-spec : {M : Type 1} → statement M
+called-spec =
+    tie.close
+    (tie.spec
+    enum-told
+    shares-requires
+    open-requires
+    enum-known-e
+    grant-requires
+    enum-known-e-2
+    reads-requires
+    writes-requires
+    begin-requires
+    enum-known-e-3
+    finish-requires
+    enum-known-e-4
+    recheck-requires
+    enum-known-e-5
+    scan-requires
+    enum-told-2
+    pick-requires
+    enum-known-e-6
+    deliver-requires
+    returns
+    returns-2
+    returns-3
+    returns-4
+    returns-5
+    returns-6
+    returns-7
+    returns-8)
