@@ -1,2 +1,4 @@
 pub mod Calls
 pub mod Stepping
+pub mod Lines
+pub mod Pieces

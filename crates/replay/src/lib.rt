@@ -16,6 +16,9 @@ use manager::Outcome;
 use manager::State;
 use rules::Answer;
 
+pub mod piece;
+pub mod print;
+
 // The state after a step, the line of its record, where the next record begins, and whether the reading goes on.
 pub struct Stepped {
     pub state: State,

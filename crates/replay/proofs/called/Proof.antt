@@ -78,49 +78,49 @@ deliver-requires c κs = search needs
 
 returns : tie.Need-returns
 unfolding step
-returns c = 
+returns c =
     let s = c .before .before .before .before .before in
     did-read (s .pre .1) (view (s .args .s)) _ (c .before .before .enum-told .given .1) (rw (c .before .shares .ensures) at (c .open .ensures))
 
 returns-2 : tie.Need-returns-2
 unfolding step
-returns-2 c = 
+returns-2 c =
     let s = c .before .before .before .before .before in
     did-read (s .pre .1) (view (s .args .s)) _ (c .before .before .e .given .1) (c .grant .ensures)
 
 returns-3 : tie.Need-returns-3
 unfolding step
-returns-3 c = 
+returns-3 c =
     let s = c .before .before .before .before .before .before .before in
     did-read (s .pre .1) (view (s .args .s)) _ (c .before .before .before .before .e2 .given .1) (rw (c .before .before .reads .ensures, c .before .writes .ensures) at (c .begin .ensures))
 
 returns-4 : tie.Need-returns-4
 unfolding step
-returns-4 c = 
+returns-4 c =
     let s = c .before .before .before .before .before in
     did-read (s .pre .1) (view (s .args .s)) _ (c .before .before .e3 .given .1) (c .finish .ensures)
 
 returns-5 : tie.Need-returns-5
 unfolding step
-returns-5 c = 
+returns-5 c =
     let s = c .before .before .before .before .before in
     did-read (s .pre .1) (view (s .args .s)) _ (c .before .before .e4 .given .1) (c .recheck .ensures)
 
 returns-6 : tie.Need-returns-6
 unfolding step
-returns-6 c = 
+returns-6 c =
     let s = c .before .before .before .before .before in
     did-read (s .pre .1) (view (s .args .s)) _ (c .before .before .e5 .given .1) (c .scan .ensures)
 
 returns-7 : tie.Need-returns-7
 unfolding step
-returns-7 c = 
+returns-7 c =
     let s = c .before .before .before .before in
     did-read (s .pre .1) (view (s .args .s)) _ (c .before .enum-told2 .given .1) (c .pick .ensures)
 
 returns-8 : tie.Need-returns-8
 unfolding step
-returns-8 c = 
+returns-8 c =
     let s = c .before .before .before .before .before in
     did-read (s .pre .1) (view (s .args .s)) _ (c .before .before .e6 .given .1) (c .deliver .ensures)
 

@@ -23,7 +23,7 @@ enum-known-found : tie.Need-enum-known-found
 enum-known-found c = search needs
 
 called-requires : tie.Need-called-requires
-called-requires c κs = 
+called-requires c κs =
     let read = c .before .before .before in
     let s = read .before .before in
     (s .pre, record { first = s .args .first; next = c .before .found .given .0 .1 .0; is = sym (read .record-at .ensures) ∙ c .before .found .given .1 })
@@ -53,7 +53,7 @@ blank-requires : tie.Need-blank-requires
 blank-requires c κs = search needs
 
 returns : tie.Need-returns
-returns c = 
+returns c =
     let line = c .before .before in
     let done = line .before .before .before in
     let f = done .before .before in
@@ -62,14 +62,14 @@ returns c =
     step-called (s .args .s) (s .args .bytes .now) (s .args .at) (s .args .first) (s .args .number) (sym (read .record-at .ensures) ∙ f .found .given .1) (done .called .ensures) (c .before .name-of .ensures) (line .left-in .ensures ∙ ap (leftAfter (view (done .called .result .state))) (line .before .tenant-of .ensures)) (c .line-of .ensures)
 
 returns-2 : tie.Need-returns-2
-returns-2 c = 
+returns-2 c =
     let f = c .before .before in
     let read = f .before .before in
     let s = read .before .before in
     step-refused (s .args .s) (s .args .bytes .now) (s .args .at) (s .args .first) (s .args .number) (sym (read .record-at .ensures) ∙ f .found2 .given .1) (s .pre) (c .line-of2 .ensures)
 
 returns-3 : tie.Need-returns-3
-returns-3 c = 
+returns-3 c =
     let read = c .before .before .before in
     let s = read .before .before in
     step-end (s .args .s) (s .args .bytes .now) (s .args .at) (s .args .first) (s .args .number) (sym (read .record-at .ensures) ∙ c .before .enum-told .given .1) (s .pre) (c .blank .ensures)
