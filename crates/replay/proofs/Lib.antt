@@ -2,3 +2,4 @@ pub mod Calls
 pub mod Stepping
 pub mod Lines
 pub mod Pieces
+pub mod Listings

@@ -2,7 +2,7 @@
 use Prim.Native.Nat.{ℕ, suc, _+_, _-_, _≤_, _<_}
 use mathlib.Core.Path.{_≡_, refl, sym, ap, _∙_}
 use mathlib.Core.Bool.{Bool, true, false}
-use mathlib.Core.List.{List, [], _++_, append-nil, append-assoc}
+use mathlib.Core.List.{List, _++_, append-nil, append-assoc}
 use native.Mathlib.Omega.{arith}
 use borrow.Author.Tests.{ltb-false}
 use lib.ListN.{length, take, drop, length-take, length-append, length-replicate, take-append-drop}
@@ -10,13 +10,13 @@ use lib.Seq.{paste, take-paste, take-take, take-append-add, length-paste}
 use Rattle.rules.specs.Lists.{if_then_else_}
 use Rattle.manager.specs.declared.State.{State}
 use Rattle.manager.specs.State.{view, Sound}
-use Rattle.events.specs.Events.{tooLong, recordAt}
+use Rattle.events.specs.Events.{tooLong}
 use Rattle.listing.specs.declared.Line.{Line}
 use Rattle.listing.specs.Listing.{headerText}
 use Rattle.listing.specs.Written.{textOf, Written}
 use Rattle.replay.specs.declared.Stepped.{Stepped}
 use Rattle.replay.specs.declared.piece.Place.{Place}
-use Rattle.replay.specs.Replay.{fileLine, goesOn, placeBy, linesLeft, unopened, listingOf, Steps}
+use Rattle.replay.specs.Replay.{fileLine, unopened, listingOf, Steps}
 use Rattle.replay.specs.Pieces.{rest, Within, Ready, Room, Piece, Onward}
 use Rattle.replay.proofs.Lines.{Later, later, step-lines}
 

@@ -1,6 +1,6 @@
 -- The start, and the three ways out of a step: the end, a refusal, and a call.
 use Prim.Native.Nat.{ℕ}
-use mathlib.Core.Path.{_≡_, refl, sym, ap, _∙_}
+use mathlib.Core.Path.{_≡_, refl}
 use mathlib.Core.Bool.{Bool, true, false}
 use mathlib.Core.List.{List, []}
 use native.Mathlib.Omega.{arith}
@@ -17,7 +17,7 @@ use Rattle.manager.specs.declared.Outcome.{Outcome}
 use Rattle.manager.specs.State.{view, Sound, Did}
 use Rattle.events.specs.declared.Event.{Event}
 use Rattle.events.specs.declared.Next.{Next}
-use Rattle.events.specs.Events.{callAt, eventOf, recordAt}
+use Rattle.events.specs.Events.{callAt, recordAt}
 use Rattle.listing.specs.declared.Line.{Line}
 use Rattle.listing.specs.declared.Name.{Name}
 use Rattle.listing.specs.declared.Left.{Left}

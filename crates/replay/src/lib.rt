@@ -3,7 +3,7 @@ ghost use mathlib.Core.Path.{_≡_};
 ghost use mathlib.Core.List.{[]};
 ghost use Rattle.rules.specs.Prices.{clause9};
 ghost use Rattle.rules.specs.Runs.{step as stepOf};
-ghost use Rattle.manager.specs.State.{view, Sound, Becomes, Did};
+ghost use Rattle.manager.specs.State.{view, Sound, Did};
 ghost use Rattle.events.specs.Events.{callAt};
 ghost use Rattle.listing.specs.Written.{Written};
 ghost use Rattle.replay.specs.Replay.{nameFor, tenantOf, leftAfter, unopened, ReadAt, Steps};

@@ -1,5 +1,4 @@
 -- The piece so far and what is left at the place are what was left before; each line brings the place on.
-use borrow.Author.Needs.{needs}
 use Prim.Native.Nat.{ℕ}
 use mathlib.Core.Path.{_≡_, refl}
 use native.Mathlib.Omega.{arith}
