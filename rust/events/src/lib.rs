@@ -6,6 +6,7 @@
 //!   with. Each is made with `random` (the numbers) and `sheet` (the file so far
 //!   with the state it leads to).
 //! - `show`: a listing with the state after each call.
+//! - `program`: how the programs end.
 
 pub mod back;
 mod boundary;
@@ -14,6 +15,7 @@ pub mod encode;
 pub mod kinds;
 mod load;
 pub mod long;
+pub mod program;
 pub mod random;
 mod refusals;
 mod sheet;

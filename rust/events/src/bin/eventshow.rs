@@ -2,23 +2,14 @@
 //! each call below its line. The exit status is 1 where the second program
 //! would have written another line.
 
+use events::program::ended;
 use events::show::show;
 use std::fs;
 use std::io::{self, BufWriter, Write};
 use std::process::ExitCode;
 
 fn main() -> ExitCode {
-    let arguments: Vec<String> = std::env::args_os()
-        .skip(1)
-        .map(|argument| argument.to_string_lossy().into_owned())
-        .collect();
-    match run(&arguments) {
-        Ok(()) => ExitCode::SUCCESS,
-        Err(what) => {
-            eprintln!("{}", what);
-            ExitCode::FAILURE
-        }
-    }
+    ended(run)
 }
 
 fn run(arguments: &[String]) -> Result<(), String> {

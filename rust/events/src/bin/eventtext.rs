@@ -3,22 +3,13 @@
 //! `eventtext --either` takes text or an event file and writes an event file.
 
 use events::back::to_text;
+use events::program::ended;
 use events::text::{is_text, to_bytes, WrongLine};
 use std::io::{self, Read, Write};
 use std::process::ExitCode;
 
 fn main() -> ExitCode {
-    let arguments: Vec<String> = std::env::args_os()
-        .skip(1)
-        .map(|argument| argument.to_string_lossy().into_owned())
-        .collect();
-    match run(&arguments) {
-        Ok(()) => ExitCode::SUCCESS,
-        Err(what) => {
-            eprintln!("{}", what);
-            ExitCode::FAILURE
-        }
-    }
+    ended(run)
 }
 
 /// Nothing is written before all of the input has been found right.
