@@ -6,6 +6,7 @@ use Rattle.cases.proofs.main.Tie as tie
 use Rattle.cases.proofs.main.Reads as reads
 use Rattle.cases.proofs.main.Lts as lts
 use Rattle.cases.proofs.digit.Reads as digit-reads
+use Rattle.cases.proofs.tell.Reads as tell-reads
 use Rattle.libc.proofs.close.Reads as close-reads
 use Rattle.os.proofs.open_read.Reads as open-read-reads
 use Rattle.replay.proofs.print.listing_of.Reads as listing-of-reads
@@ -37,6 +38,9 @@ listing-of-requires c κs = search needs
 close-requires : tie.Need-close-requires Inv-loop μ-loop
 close-requires c κs = search needs
 
+tell-requires : tie.Need-tell-requires Inv-loop μ-loop
+tell-requires c κs = search needs
+
 add-n : tie.Need-add-n Inv-loop μ-loop
 add-n c = search needs
 
@@ -52,6 +56,9 @@ returns c = search needs
 returns-2 : tie.Need-returns-2 Inv-loop μ-loop
 returns-2 c = search needs
 
+returns-3 : tie.Need-returns-3 Inv-loop μ-loop
+returns-3 c = search needs
+
 pub main-spec : {M : Type 1} → statement M
 main-spec =
     tie.close
@@ -65,8 +72,10 @@ main-spec =
     open-read-requires
     listing-of-requires
     close-requires
+    tell-requires
     add-n
     loop-less
     loop-again
     returns
-    returns-2)
+    returns-2
+    returns-3)

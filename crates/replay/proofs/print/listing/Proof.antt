@@ -1,4 +1,5 @@
--- Before each piece the place is one that a listing can go on from.
+-- Before each piece the place is one that a listing can go on from, and a piece leaves fewer bytes to read. Where a write
+-- fails nothing is left to show.
 use borrow.Author.Needs.{needs}
 use Prim.Native.Nat.{ℕ}
 use native.Mathlib.Omega.{arith}
@@ -31,9 +32,12 @@ slice-aggregate-write-all c = piece-bytes (c .before .opened .ensures)
 write-all-requires : tie.Need-write-all-requires Inv-loop μ-loop
 write-all-requires c κs = search needs
 
+returns : tie.Need-returns Inv-loop μ-loop
+returns c = search needs
+
 loop-holds : tie.Need-loop-holds Inv-loop μ-loop
 loop-holds c =
-    let h = c .before .before .opened .ensures in
+    let h = c .before .before .before .opened .ensures in
     (h .ready, h .room)
 
 filled-requires : tie.Need-filled-requires Inv-loop μ-loop
@@ -48,20 +52,23 @@ slice-aggregate-write-all-2 c = piece-bytes (c .before .filled .ensures .0)
 write-all-requires-2 : tie.Need-write-all-requires-2 Inv-loop μ-loop
 write-all-requires-2 c κs = search needs
 
+returns-2 : tie.Need-returns-2 Inv-loop μ-loop
+returns-2 c = search needs
+
 loop-less : tie.Need-loop-less Inv-loop μ-loop
 loop-less c =
-    let f = c .before .before in
+    let f = c .before .before .before in
     let q = f .before .before in
-    let file = q .before .before .before .before .before .before .before .args .bytes .now in
+    let file = q .before .before .before .before .before .before .before .before .args .bytes .now in
     reads-less file (q .before .loop .p) (f .filled .result) (q .loop-test .taken) (f .filled .ensures .0 .ready) (f .filled .ensures .1)
 
 loop-again : tie.Need-loop-again Inv-loop μ-loop
 loop-again c =
-    let h = c .before .before .filled .ensures .0 in
+    let h = c .before .before .before .filled .ensures .0 in
     (h .ready, h .room)
 
-returns : tie.Need-returns Inv-loop μ-loop
-returns c = search needs
+returns-3 : tie.Need-returns-3 Inv-loop μ-loop
+returns-3 c = search needs
 
 pub listing-spec : {M : Type 1} → statement M
 listing-spec =
@@ -73,11 +80,13 @@ listing-spec =
     array-share-prefix-out
     slice-aggregate-write-all
     write-all-requires
+    returns
     loop-holds
     filled-requires
     array-share-prefix-out-2
     slice-aggregate-write-all-2
     write-all-requires-2
+    returns-2
     loop-less
     loop-again
-    returns)
+    returns-3)
