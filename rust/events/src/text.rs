@@ -18,7 +18,7 @@
 //! tenant 200 is a file worth writing, for its refusal.
 
 use crate::encode::encode;
-use second::reader::Event;
+use second::reader::{Event, MOST_BYTES};
 use second::table::TENANTS;
 use std::fmt;
 
@@ -39,30 +39,61 @@ impl fmt::Display for WrongLine {
     }
 }
 
-/// Whether an input is text, by its first byte: a blank, a line end or another
-/// printable character of ASCII. Any other input is an event file, and so is
-/// an empty one. A record begins with its tag, 01 to 08.
+/// What some editors put before UTF-8 text.
+const BYTE_ORDER_MARK: &str = "\u{FEFF}";
+
+/// Whether an input is text, by how it begins: with a blank, a line end or
+/// another printable character of ASCII, or with the byte-order mark. Any other
+/// input is an event file, and so is an empty one. A record begins with its
+/// tag, 01 to 08.
 pub fn is_text(input: &[u8]) -> bool {
-    matches!(input.first(), Some(b'\t' | b'\n' | b'\r' | b' '..=b'~'))
+    input.starts_with(BYTE_ORDER_MARK.as_bytes())
+        || matches!(input.first(), Some(b'\t' | b'\n' | b'\r' | b' '..=b'~'))
 }
 
-/// The event bytes of a text, or its first wrong line.
+/// The event bytes of a text, or its first wrong line. They may be more than an
+/// event file holds, so that such a file can be written, for its refusal.
 pub fn to_bytes(text: &[u8]) -> Result<Vec<u8>, WrongLine> {
+    to_bytes_up_to(usize::MAX, text)
+}
+
+/// The same of a text that is to be run: the line at which the events become
+/// too many for an event file is wrong.
+pub fn to_file(text: &[u8]) -> Result<Vec<u8>, WrongLine> {
+    to_bytes_up_to(MOST_BYTES, text)
+}
+
+fn to_bytes_up_to(most: usize, text: &[u8]) -> Result<Vec<u8>, WrongLine> {
     let mut out = Vec::new();
     for (before, line) in text.split(|&byte| byte == b'\n').enumerate() {
-        add_line(line, &mut out).map_err(|what| WrongLine {
-            line: before + 1,
-            what,
-        })?;
+        let mark = if before == 0 { BYTE_ORDER_MARK } else { "" };
+        add_line(mark, line, &mut out)
+            .and_then(|()| within(most, out.len()))
+            .map_err(|what| WrongLine {
+                line: before + 1,
+                what,
+            })?;
     }
     Ok(out)
 }
 
-fn add_line(line: &[u8], out: &mut Vec<u8>) -> Result<(), String> {
+fn within(most: usize, bytes: usize) -> Result<(), String> {
+    if bytes > most {
+        return Err(format!(
+            "the events up to here take {} bytes (at most {} fit an event file)",
+            bytes, most
+        ));
+    }
+    Ok(())
+}
+
+/// A mark that the line begins with is no part of its words, but of its bytes.
+fn add_line(mark: &str, line: &[u8], out: &mut Vec<u8>) -> Result<(), String> {
     let line = std::str::from_utf8(line).map_err(|error| {
         let at = error.valid_up_to();
         format!("byte {} (hex {:02x}) is not UTF-8 text", at + 1, line[at])
     })?;
+    let line = line.strip_prefix(mark).unwrap_or(line);
     let code = line.split('#').next().unwrap_or("");
     let mut words = Words::of(code);
     match words.next() {

@@ -113,7 +113,7 @@ fn eventtext_writes_nothing_for_a_wrong_line() {
     assert_eq!(message, "line 2: byte 1 (hex fe) is not UTF-8 text\n");
 }
 
-/// A file is text by its first byte, and an event file if it is empty.
+/// A file is text by how it begins, and an event file if it is empty.
 #[test]
 fn eventtext_takes_either() {
     let either = |input: &[u8]| succeeded(eventtext(&["--either"], input));
@@ -123,11 +123,22 @@ fn eventtext_takes_either() {
         "# two\nopen 2 2\n",
         "\n\topen 2 2",
         "\r\n open 2 2",
+        "\u{FEFF}open 2 2",
     ] {
         assert_eq!(either(text.as_bytes()), open, "{:?}", text);
     }
     assert_eq!(either(b"# nothing\n"), b"");
-    let files: [&[u8]; 7] = [b"", &open, b"\x01", b"\x08", b"\0", b"\x7F", b"\xFFpick\n"];
+    assert_eq!(either(b"\xEF\xBB\xBF"), b"");
+    let files: [&[u8]; 8] = [
+        b"",
+        &open,
+        b"\x01",
+        b"\x08",
+        b"\0",
+        b"\x7F",
+        b"\xFFpick\n",
+        b"\xEF\xBBpick\n",
+    ];
     for file in files {
         assert_eq!(either(file), file, "{:?}", file);
     }
@@ -135,33 +146,67 @@ fn eventtext_takes_either() {
     assert_eq!(message, "line 2: \"100\" is not a byte of two hex digits\n");
 }
 
+/// With `--text` an event file is wrong text; without a flag it is too.
 #[test]
-fn eventtext_knows_two_flags() {
-    let wrong: [&[&str]; 3] = [&["--forth"], &["--back", "--either"], &["file"]];
+fn eventtext_takes_text_alone() {
+    let text = b"open 2 2\npick\n";
+    let bytes = succeeded(eventtext(&[], text));
+    assert_eq!(succeeded(eventtext(&["--text"], text)), bytes);
+    for arguments in [&["--text"][..], &[]] {
+        let message = failed(eventtext(arguments, &bytes));
+        assert!(message.starts_with("line 1: unknown word "), "{}", message);
+        let marked = [b"\xEF\xBB\xBF", &text[..]].concat();
+        assert_eq!(succeeded(eventtext(arguments, &marked)), bytes);
+    }
+}
+
+/// What is to be run must fit an event file. Without a flag such text is
+/// written as it is, and an event file is never held back.
+#[test]
+fn eventtext_tells_the_line_at_which_a_file_is_full() {
+    // 16 + 3 bytes, 21,839 times 3, and one: 65,537.
+    let text = format!("open 2 2\n\n{}raw ff\npick\n", "pick\n".repeat(21_839));
+    let message = "line 21842: the events up to here take 65537 bytes \
+                   (at most 65536 fit an event file)\n";
+    for flag in ["--text", "--either"] {
+        assert_eq!(failed(eventtext(&[flag], text.as_bytes())), message);
+    }
+    let file = succeeded(eventtext(&[], text.as_bytes()));
+    assert_eq!(file.len(), 65_540);
+    assert_eq!(succeeded(eventtext(&["--either"], &file)), file);
+}
+
+#[test]
+fn eventtext_knows_three_flags() {
+    let wrong: [&[&str]; 4] = [
+        &["--forth"],
+        &["--back", "--either"],
+        &["--text", "--either"],
+        &["file"],
+    ];
     for arguments in wrong {
         assert_eq!(
             failed(eventtext(arguments, b"")),
-            "usage: eventtext [--back | --either]\n"
+            "usage: eventtext [--text | --either | --back]\n"
         );
     }
 }
 
-/// Two files in a folder of their own, and `eventshow` on them.
-fn eventshow(folder: &str, events: &[u8], listing: &str) -> Output {
+/// Two files in a folder of their own, and `eventshow` to be run on them.
+fn eventshow_on(folder: &str, events: &[u8], listing: &str) -> Command {
     let folder = PathBuf::from(env!("CARGO_TARGET_TMPDIR")).join(folder);
     fs::create_dir_all(&folder).expect("a folder for this test");
     let (events_file, listing_file) = (folder.join("events"), folder.join("listing"));
     fs::write(&events_file, events).expect("a file");
     fs::write(&listing_file, listing).expect("a file");
-    let names = [
-        events_file.to_string_lossy(),
-        listing_file.to_string_lossy(),
-    ];
-    run(
-        env!("CARGO_BIN_EXE_eventshow"),
-        &[&names[0], &names[1]],
-        b"",
-    )
+    let mut command = Command::new(env!("CARGO_BIN_EXE_eventshow"));
+    command.args([events_file, listing_file]);
+    command
+}
+
+fn eventshow(folder: &str, events: &[u8], listing: &str) -> Output {
+    let mut command = eventshow_on(folder, events, listing);
+    command.output().expect("the program starts")
 }
 
 #[test]
@@ -187,6 +232,36 @@ fn eventshow_ends_with_1_where_the_programs_differ() {
         String::from_utf8_lossy(&output.stderr),
         "the second program differs from the proved listing in 1 line(s), marked DIFFERENT\n"
     );
+}
+
+#[test]
+fn eventshow_tells_an_output_that_cannot_be_written() {
+    let events = succeeded(eventtext(&[], b"open\npick\n"));
+    let full = fs::OpenOptions::new().write(true).open("/dev/full");
+    let output = eventshow_on("full", &events, &second::listing(&events))
+        .stdout(full.expect("a device that is always full"))
+        .output()
+        .expect("the program starts");
+    let message = failed(output);
+    let start = "eventshow: the output could not be written: ";
+    assert!(message.starts_with(start), "{}", message);
+    assert_eq!(message.lines().count(), 1, "{}", message);
+}
+
+/// The output is far more than a pipe holds, so the program is still writing
+/// when its reader goes.
+#[test]
+fn eventshow_is_quiet_where_nobody_reads() {
+    let events = long("long-picks", 1).expect("a long file");
+    let mut child = eventshow_on("unread", &events, &second::listing(&events))
+        .stdout(Stdio::piped())
+        .stderr(Stdio::piped())
+        .spawn()
+        .expect("the program starts");
+    drop(child.stdout.take());
+    let output = child.wait_with_output().expect("it ends");
+    assert_eq!(String::from_utf8_lossy(&output.stderr), "");
+    assert_eq!(output.status.code(), Some(141));
 }
 
 #[test]

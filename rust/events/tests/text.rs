@@ -4,7 +4,7 @@ mod common;
 
 use events::back::to_text;
 use events::random::Random;
-use events::text::to_bytes;
+use events::text::{to_bytes, to_file};
 
 fn bytes(text: &str) -> Vec<u8> {
     match to_bytes(text.as_bytes()) {
@@ -220,6 +220,42 @@ fn the_first_wrong_line_is_told() {
     let text = b"open 2 2\n\n# scan x\npick\nscan x\nscan y\n";
     assert_eq!(wrong(text), "line 5: tenant: \"x\" is not a number");
     assert_eq!(wrong(b"pick\r\nscan\r\n"), "line 2: tenant is missing");
+}
+
+/// A byte-order mark before the text is skipped; anywhere else it is part of a
+/// word. It has three bytes, which count where a byte is told.
+#[test]
+fn a_byte_order_mark() {
+    assert_eq!(bytes("\u{FEFF}pick\npick"), bytes("pick\npick"));
+    assert_eq!(bytes("\u{FEFF}"), []);
+    assert_eq!(bytes("\u{FEFF}\n# two\npick"), [7, 0, 0]);
+    let message = "line 2: tenant is missing";
+    assert_eq!(wrong("\u{FEFF}pick\nscan".as_bytes()), message);
+    let message = "line 1: byte 9 (hex ff) is not UTF-8 text";
+    assert_eq!(wrong(b"\xEF\xBB\xBFpick \xFF"), message);
+    for text in [
+        "\u{FEFF}\u{FEFF}pick",
+        "pick\n\u{FEFF}pick",
+        " \u{FEFF}pick",
+    ] {
+        assert!(to_bytes(text.as_bytes()).is_err(), "{:?}", text);
+    }
+}
+
+/// 65,536 bytes are a file, one more is told at its line, whatever follows.
+#[test]
+fn events_that_fill_a_file() {
+    let full = format!("{}raw 07 00 00 ff\n# full\n", "pick\n".repeat(21_844));
+    assert_eq!(to_file(full.as_bytes()).map(|file| file.len()), Ok(65_536));
+    let above = format!("{}raw ff\npick\nscan x\n", full);
+    let message = "line 21847: the events up to here take 65537 bytes \
+                   (at most 65536 fit an event file)";
+    let told = to_file(above.as_bytes()).map_err(|wrong| wrong.to_string());
+    assert_eq!(told, Err(String::from(message)));
+    assert_eq!(
+        wrong(above.as_bytes()),
+        "line 21849: tenant: \"x\" is not a number"
+    );
 }
 
 #[test]

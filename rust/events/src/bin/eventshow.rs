@@ -2,7 +2,7 @@
 //! each call below its line. The exit status is 1 where the second program
 //! would have written another line.
 
-use events::program::ended;
+use events::program::{ended, unwritten, Stop};
 use events::show::show;
 use std::fs;
 use std::io::{self, BufWriter, Write};
@@ -12,18 +12,17 @@ fn main() -> ExitCode {
     ended(run)
 }
 
-fn run(arguments: &[String]) -> Result<(), String> {
+fn run(arguments: &[String]) -> Result<(), Stop> {
     let (events, listing) = match arguments {
         [events, listing] => (read(events)?, read(listing)?),
-        _ => return Err(String::from("usage: eventshow EVENTS LISTING")),
+        _ => return Err(String::from("usage: eventshow EVENTS LISTING").into()),
     };
-    match write(&events, &listing) {
-        Ok(0) => Ok(()),
-        Ok(different) => Err(format!(
+    match write(&events, &listing).map_err(unwritten("eventshow"))? {
+        0 => Ok(()),
+        different => Err(Stop::Wrong(format!(
             "the second program differs from the proved listing in {} line(s), marked DIFFERENT",
             different
-        )),
-        Err(error) => Err(format!("eventshow: {}", error)),
+        ))),
     }
 }
 
