@@ -27,6 +27,9 @@ pub const WORDS: &str = "open, grant, begin, finish, recheck, scan, pick, delive
 
 const BEGIN_PARTS: [&str; 3] = ["awaited", "reads", "writes"];
 
+/// The most characters of a word that a message shows.
+const SHOWN: usize = 40;
+
 #[derive(Clone, Debug, PartialEq, Eq)]
 pub struct WrongLine {
     pub line: usize,
@@ -127,7 +130,13 @@ fn add_record(word: &str, mut words: Words<'_>, out: &mut Vec<u8>) -> Result<(),
             tenant: words.byte("tenant")?,
             serial: words.serial()?,
         },
-        _ => return Err(format!("unknown word \"{}\" (known: {})", word, WORDS)),
+        _ => {
+            return Err(format!(
+                "unknown word \"{}\" (known: {})",
+                shown(word),
+                WORDS
+            ))
+        }
     };
     words.end()?;
     encode(event, out)
@@ -155,7 +164,12 @@ fn add_begin(mut words: Words<'_>, out: &mut Vec<u8>) -> Result<(), String> {
             "awaited" => set_once(&mut awaited, part, words.byte("awaited")?)?,
             "reads" => set_once(&mut reads, part, words.records(part)?)?,
             "writes" => set_once(&mut writes, part, words.records(part)?)?,
-            _ => return Err(format!("\"{}\" is not awaited, reads or writes", part)),
+            _ => {
+                return Err(format!(
+                    "\"{}\" is not awaited, reads or writes",
+                    shown(part)
+                ))
+            }
         }
     }
     let event = Event::Begin {
@@ -189,8 +203,20 @@ fn hex_byte(word: &str) -> Result<u8, String> {
     let two_digits = word.len() == 2 && word.bytes().all(|c| c.is_ascii_hexdigit());
     match u8::from_str_radix(word, 16) {
         Ok(byte) if two_digits => Ok(byte),
-        _ => Err(format!("\"{}\" is not a byte of two hex digits", word)),
+        _ => Err(format!(
+            "\"{}\" is not a byte of two hex digits",
+            shown(word)
+        )),
     }
+}
+
+/// A word of the text as a message shows it. Bytes that were no text may have
+/// been read as such, so it is kept short, and what cannot be printed is
+/// written out.
+fn shown(word: &str) -> String {
+    let start: String = word.chars().take(SHOWN).collect();
+    let cut = if start.len() < word.len() { "..." } else { "" };
+    format!("{}{}", start.escape_debug(), cut)
 }
 
 /// The words of a line, taken one after the other.
@@ -220,11 +246,16 @@ impl<'a> Words<'a> {
             None => return Err(format!("{} is missing", field)),
         };
         if !word.bytes().all(|c| c.is_ascii_digit()) {
-            return Err(format!("{}: \"{}\" is not a number", field, word));
+            return Err(format!("{}: \"{}\" is not a number", field, shown(word)));
         }
         match word.parse::<u32>() {
             Ok(number) if number <= most => Ok(number),
-            _ => Err(format!("{}: {} is not in 0 to {}", field, word, most)),
+            _ => Err(format!(
+                "{}: {} is not in 0 to {}",
+                field,
+                shown(word),
+                most
+            )),
         }
     }
 
@@ -260,7 +291,7 @@ impl<'a> Words<'a> {
 
     fn end(&mut self) -> Result<(), String> {
         match self.next() {
-            Some(word) => Err(format!("\"{}\" is one word too many", word)),
+            Some(word) => Err(format!("\"{}\" is one word too many", shown(word))),
             None => Ok(()),
         }
     }

@@ -131,6 +131,21 @@ fn wrong_words() {
     assert_eq!(wrong(b"scan 1 2"), "line 1: \"2\" is one word too many");
 }
 
+/// Bytes read as text, and words without end, are told in few and readable
+/// characters.
+#[test]
+fn wrong_words_are_shown_short() {
+    let message = wrong(b"\x01\0\x10\xC2\x85pick");
+    let start = "line 1: unknown word \"\\u{1}\\0\\u{10}\" (known: ";
+    assert!(message.starts_with(start), "{}", message);
+    let digits = "9".repeat(1_000);
+    let told = format!("line 1: tenant: {}... is not in 0 to 255", "9".repeat(40));
+    assert_eq!(wrong(format!("scan {}", digits).as_bytes()), told);
+    let forty = "x".repeat(40);
+    let told = format!("line 1: tenant: \"{}\" is not a number", forty);
+    assert_eq!(wrong(format!("scan {}", forty).as_bytes()), told);
+}
+
 #[test]
 fn wrong_numbers() {
     assert_eq!(wrong(b"scan x"), "line 1: tenant: \"x\" is not a number");
