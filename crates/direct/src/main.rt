@@ -2,12 +2,14 @@
 // what no event file can: refusal 8, and shares that are not 16.
 ghost use Prim.Native.Nat.{_≤_};
 ghost use Rattle.manager.specs.State.{Sound};
+use entry::Entry;
 use libc::STDOUT_FILENO;
 use listing::Left;
 use listing::Line;
 use listing::Name;
 use manager::Outcome;
 use manager::State;
+use rules::Kind;
 
 // The fuel that the named tenant has left.
 fn left_of(s: State, who: u8) -> Left {
@@ -28,14 +30,14 @@ fn put(l: Line)
 }
 
 // Prints what a call came to, and hands on the state after it. Open and Pick name no tenant, and give 0.
-fn told(number: u32, name: Name, who: u8, o: Outcome) -> State
+fn told(number: u32, kind: Kind, who: u8, o: Outcome) -> State
     requires { ⌜ Sound (o .state) ⌝ }
     ensures { λ r. ⌜ Sound r ⌝ }
 {
     let next = o.state;
     let answer = o.answer;
     let left = left_of(next, who);
-    let line = listing::line_of(number, name, answer, o.burnt, left);
+    let line = listing::line_of(number, Name::Call(kind), answer, o.burnt, left);
     put(line);
     next
 }
@@ -44,7 +46,7 @@ fn open(number: u32, shares: &[u8]) -> State
     ensures { λ r. ⌜ Sound r ⌝ }
 {
     let o = manager::open::open(shares);
-    told(number, Name::Open, 0, o)
+    told(number, Kind::Open, 0, o)
 }
 
 fn grant(number: u32, s: State, who: u8, amount: u32) -> State
@@ -52,7 +54,7 @@ fn grant(number: u32, s: State, who: u8, amount: u32) -> State
     ensures { λ r. ⌜ Sound r ⌝ }
 {
     let o = manager::grant::grant(s, who, amount);
-    told(number, Name::Grant, who, o)
+    told(number, Kind::Grant, who, o)
 }
 
 fn begin(number: u32, s: State, who: u8, awaited: u8, reads: &[u8], writes: &[u8]) -> State
@@ -60,7 +62,7 @@ fn begin(number: u32, s: State, who: u8, awaited: u8, reads: &[u8], writes: &[u8
     ensures { λ r. ⌜ Sound r ⌝ }
 {
     let o = manager::begin::begin(s, who, awaited, reads, writes);
-    told(number, Name::Begin, who, o)
+    told(number, Kind::Begin, who, o)
 }
 
 fn finish(number: u32, s: State, who: u8, serial: u16) -> State
@@ -68,7 +70,7 @@ fn finish(number: u32, s: State, who: u8, serial: u16) -> State
     ensures { λ r. ⌜ Sound r ⌝ }
 {
     let o = manager::finish::finish(s, who, serial);
-    told(number, Name::Finish, who, o)
+    told(number, Kind::Finish, who, o)
 }
 
 fn recheck(number: u32, s: State, who: u8, serial: u16) -> State
@@ -76,7 +78,7 @@ fn recheck(number: u32, s: State, who: u8, serial: u16) -> State
     ensures { λ r. ⌜ Sound r ⌝ }
 {
     let o = manager::recheck::recheck(s, who, serial);
-    told(number, Name::Recheck, who, o)
+    told(number, Kind::Recheck, who, o)
 }
 
 fn scan(number: u32, s: State, who: u8) -> State
@@ -84,7 +86,7 @@ fn scan(number: u32, s: State, who: u8) -> State
     ensures { λ r. ⌜ Sound r ⌝ }
 {
     let o = manager::scan::scan(s, who);
-    told(number, Name::Scan, who, o)
+    told(number, Kind::Scan, who, o)
 }
 
 fn pick(number: u32, s: State) -> State
@@ -92,7 +94,7 @@ fn pick(number: u32, s: State) -> State
     ensures { λ r. ⌜ Sound r ⌝ }
 {
     let o = manager::pick::pick(s);
-    told(number, Name::Pick, 0, o)
+    told(number, Kind::Pick, 0, o)
 }
 
 fn deliver(number: u32, s: State, who: u8, serial: u16) -> State
@@ -100,7 +102,61 @@ fn deliver(number: u32, s: State, who: u8, serial: u16) -> State
     ensures { λ r. ⌜ Sound r ⌝ }
 {
     let o = manager::deliver::deliver(s, who, serial);
-    told(number, Name::Deliver, who, o)
+    told(number, Kind::Deliver, who, o)
+}
+
+// Writes the word of a verdict.
+fn say(clear: bool) {
+    if clear {
+        io::write_all(STDOUT_FILENO, b" clear");
+    } else {
+        io::write_all(STDOUT_FILENO, b" held");
+    }
+}
+
+// Prints the two verdicts on the entry at a place.
+fn verdict(at: usize, by_maps: bool, by_pairs: bool) {
+    io::write_all(STDOUT_FILENO, b"verdict ");
+    io::print_decimal(STDOUT_FILENO, at as u64);
+    say(by_maps);
+    say(by_pairs);
+    io::write_all(STDOUT_FILENO, b"\n");
+}
+
+// The map with the records that an entry writes, and with those that it reads.
+fn with_writes(map: [u64; 4], e: Entry) -> [u64; 4] {
+    let list = e.writes;
+    let n = entry::few(e.nw);
+    maps::with_list(map, list, n)
+}
+
+fn with_reads(map: [u64; 4], e: Entry) -> [u64; 4] {
+    let list = e.reads;
+    let n = entry::few(e.nr);
+    maps::with_list(map, list, n)
+}
+
+// Asks of each entry, front first, whether nothing ahead of it conflicts: what the maps over the entries ahead say, and what
+// the plain comparison says, to which the entries ahead are lent.
+fn verdicts(s: State)
+    requires { ⌜ Sound s ⌝ }
+{
+    let q = s.queue;
+    let n = q.count;
+    let mut written = maps::none();
+    let mut read = maps::none();
+    let mut i: usize = 0;
+    while i < n {
+        let e = q.entries[i];
+        let by_maps = manager::scan::clear_by_maps(written, read, e);
+        let by_pairs = manager::scan::clear_by_pairs(s, i);
+        verdict(i, by_maps, by_pairs);
+        let more = with_writes(written, e);
+        written = more;
+        let seen = with_reads(read, e);
+        read = seen;
+        i += 1;
+    }
 }
 
 // One request of tenant 1 without records comes and goes. No line is printed.
@@ -138,6 +194,7 @@ fn calls() -> State
     let s = begin(5, s, 1, 0, &[], &[11]);
     let s = begin(6, s, 2, 0, &[], &[10, 12]);
     let s = begin(7, s, 2, 0, &[], &[12]);
+    verdicts(s);
     let s = recheck(8, s, 2, 1);
     let s = finish(9, s, 1, 1);
     let s = scan(10, s, 2);
@@ -154,6 +211,7 @@ fn remote(s: State) -> State
 {
     let s = begin(15, s, 1, 2, &[5], &[]);
     let s = begin(16, s, 2, 1, &[], &[5, 6]);
+    verdicts(s);
     let s = deliver(17, s, 2, 3);
     let s = deliver(18, s, 1, 3);
     let s = deliver(19, s, 1, 3);
@@ -180,6 +238,7 @@ fn short(s: State) -> State
     let s = scan(33, s, 3);
     let s = scan(34, s, 1);
     let s = grant(35, s, 1, 40);
+    verdicts(s);
     let s = finish(36, s, 2, 3);
     scan(37, s, 1)
 }
@@ -295,6 +354,7 @@ fn afterwards(s: State) -> State
     let s = grant(101, s, 2, 40);
     let s = begin(102, s, 2, 0, &[20], &[]);
     let s = begin(103, s, 2, 1, &[], &[20]);
+    verdicts(s);
     let s = recheck(104, s, 2, 2);
     let s = scan(105, s, 2);
     let s = finish(106, s, 2, 1);

@@ -1,192 +1,142 @@
--- What an answer of a reading says of the file.
-use Prim.Native.Nat.{ℕ, _≤_, _<_}
-use mathlib.Core.Path.{_≡_, refl, sym, ap, _∙_}
+-- What a reading says of the file that gave an event, and the end.
+use Prim.Native.Nat.{ℕ, _+_, _≤_, _<_}
+use mathlib.Core.Path.{_≡_, refl, sym, ap, subst, _∙_}
 use mathlib.Core.Bool.{Bool, true, false}
 use mathlib.Core.List.{List}
 use mathlib.Core.Logic.{_↔_}
 use native.Mathlib.Omega.{arith}
 use lib.Dec.{eqb, leb}
 use lib.ListN.{length}
-use borrow.Author.Tests.{leb-true, leb-false, eqb-true, eqb-false, ne-eqb, not-false}
+use borrow.Author.Tests.{leb-true, eqb-true, eqb-false}
+use Rattle.rules.specs.declared.Kind.{Kind}
+use Rattle.rules.specs.declared.Event.{Event}
 use Rattle.rules.specs.Lists.{if_then_else_}
 use Rattle.rules.specs.Refusals.{firstOf}
-use Rattle.rules.specs.Runs.{Call, isOpen}
-use Rattle.events.specs.declared.Event.{Event}
+use Rattle.rules.specs.Runs.{Call, eventOf}
+use Rattle.events.specs.declared.Tagged.{Tagged}
+use Rattle.events.specs.declared.Tagged.the-variants.{Known, Unknown}
 use Rattle.events.specs.declared.Next.{Next}
-use Rattle.events.specs.Events.{tagAt, bodyAt, nextAt, isOpenTag, misplaced, fileRows, callOf, callAt, eventOf, recordAt, Inside, Suited, Begins, readsAt, writesAt}
-use Rattle.events.proofs.Parts.{reads-part, writes-part}
-use Rattle.events.proofs.Tags.{by-tag, begins, call-last}
-use Rattle.events.proofs.Rows.{passes}
+use Rattle.events.specs.Events.{tagAt, bodyAt, nextAt, kindOf, recordRows, fileRows, callOf, callAt, readAs, recordAt, Part, within, sharesPart, readsPart, writesPart, standing, opens, hasLists, Whole}
+use Rattle.events.proofs.Bodies.{reads-are, writes-are}
+use Rattle.events.proofs.Rows.{whole, stands, file-broken}
+use Rattle.events.proofs.Readers.{shares-stand, reads-stand, writes-stand}
 use Rattle.events.proofs.Answers.{at-end}
 
--- the event's call, with the lists that the parts of the file are
-abbrev pub withLists : List ℕ → ℕ → Event → Call
-withLists file at Event.Open = Call.Open (bodyAt file at)
-withLists file at (Event.Grant who amount) = Call.Grant who amount
-withLists file at (Event.Begin who awaited) = Call.Begin who awaited (readsAt file at) (writesAt file at)
-withLists file at (Event.Finish who serial) = Call.Finish who serial
-withLists file at (Event.Recheck who serial) = Call.Recheck who serial
-withLists file at (Event.Scan who) = Call.Scan who
-withLists file at Event.Pick = Call.Pick
-withLists file at (Event.Deliver who serial) = Call.Deliver who serial
-
--- a call was read, and n is where the next record begins
-pub record Found (file : List ℕ) (at : ℕ) (first : Bool) (e : Event) (n : ℕ) : Type 0 where
+-- an event was read, and n is where the next record begins
+pub record Found (file : List ℕ) (at : ℕ) (e : Event) (n : ℕ) : Type 0 where
   pub next : n ≡ nextAt file at
-  pub within : n ≤ length file
-  pub onward : at < n
-  pub inside : Inside file at
-  pub call : callAt file at ≡ withLists file at e
-  -- "the first record" is Open, and no later one is
-  pub opens : isOpen (callAt file at) ≡ first
-  pub begins : {who awaited : ℕ} → e ≡ Event.Begin who awaited → Begins file at
+  pub whole : Whole file at (e .kind)
+  pub unharmed : firstOf (recordRows file at) ≡ 0
+  pub event : e ≡ eventOf (callAt file at e)
 
--- a refusal was read
-pub record Rejected (file : List ℕ) (at : ℕ) (first : Bool) (number : ℕ) : Type 0 where
-  pub before-end : at < length file
-  pub is : number ≡ firstOf (fileRows file at first)
-  pub some : number ≡ 0 → ⊥
-
--- ---- by the tag
-module _ (file : List ℕ) (at : ℕ) (s : Suited file at) where
-  lists-back : withLists file at (eventOf (callAt file at)) ≡ callAt file at
-  unfolding callOf
-  lists-back =
-      let body = bodyAt file at in
-      by-tag (λ t. tagAt file at ≡ t → withLists file at (eventOf (callOf t body)) ≡ callOf t body) (tagAt file at)
-      (λ e. refl)
-      (λ e. refl)
-      (λ e. cc (reads-part file at (begins file at s e), writes-part file at (begins file at s e)))
-      (λ e. refl)
-      (λ e. refl)
-      (λ e. refl)
-      (λ e. refl)
-      (λ l e. rw (call-last (tagAt file at) body l) refl)
-      refl
-
-open-tag : (tag : ℕ) (body : List ℕ) → isOpen (callOf tag body) ≡ isOpenTag tag
+-- ---- by the tests of a reading
+kind-back : (k : Kind) (body : List ℕ) → eventOf (callOf k body) .kind ≡ k
 unfolding callOf
-open-tag tag body =
-    by-tag (λ t. isOpen (callOf t body) ≡ isOpenTag t) tag refl refl refl refl refl refl refl
-    (λ l. ap isOpen (call-last tag body l) ∙ sym (ne-eqb tag 1 (l .not1)))
+kind-back Kind.Open body = refl
+kind-back Kind.Grant body = refl
+kind-back Kind.Begin body = refl
+kind-back Kind.Finish body = refl
+kind-back Kind.Recheck body = refl
+kind-back Kind.Scan body = refl
+kind-back Kind.Pick body = refl
+kind-back Kind.Deliver body = refl
 
-begin-tag : (tag : ℕ) (body : List ℕ) {who awaited : ℕ} → eventOf (callOf tag body) ≡ Event.Begin who awaited → tag ≡ 3
-unfolding callOf
-begin-tag tag body {who} {awaited} =
-    by-tag (λ t. eventOf (callOf t body) ≡ Event.Begin who awaited → t ≡ 3) tag
-    (λ e. cc)
-    (λ e. cc)
-    (λ e. refl)
-    (λ e. cc)
-    (λ e. cc)
-    (λ e. cc)
-    (λ e. cc)
-    (λ l e. cc (ap eventOf (call-last tag body l)))
+never : {A : Type 0} → _≡_ {A = ℕ} 0 1 → A
+never z = absurd (omega arith)
 
-placed : (tag : ℕ) (first : Bool) → misplaced tag first ≡ false → isOpenTag tag ≡ first
-placed tag true e = not-false (isOpenTag tag) e
-placed tag false e = e
-
--- ---- by the two tests of a reading
 module _ (file : List ℕ) (at : ℕ) (first : Bool) where
   abbrev number : ℕ
   number = firstOf (fileRows file at first)
 
-  abbrev answer : Bool → Bool → Next
-  answer past none =
+  abbrev answer : Bool → Bool → Tagged → Next
+  answer past none kind =
       if past then Next.End else
-      if none then Next.Call (eventOf (callAt file at)) (nextAt file at) else
+      if none then readAs kind file at else
       Next.Refused number
 
-  none-found : {e : Event} {n : ℕ} → number ≡ 0 → eventOf (callAt file at) ≡ e → nextAt file at ≡ n → Found file at first e n
-  none-found {e} {n} z ee en =
-      let p = passes file at first z in
-      let s = p .suited in
-      record {
-        next = sym en;
-        within = omega arith;
-        onward = omega arith;
-        inside = s .inside;
-        call = sym (lists-back file at s) ∙ ap (withLists file at) ee;
-        opens = open-tag (tagAt file at) (bodyAt file at) ∙ placed (tagAt file at) first (p .placed);
-        begins = λ b. begins file at s (begin-tag (tagAt file at) (bodyAt file at) (ee ∙ b));
-      }
-
-  pub found : {e : Event} {n : ℕ} → recordAt file at first ≡ Next.Call e n → Found file at first e n
-  unfolding recordAt
-  found {e} {n} q = go (leb (length file) at) (eqb number 0) refl q
+  -- a record that is not refused has nothing wrong with it
+  unharmed : number ≡ 0 → firstOf (recordRows file at) ≡ 0
+  unharmed z = go (eqb (firstOf (recordRows file at)) 0) refl
     where
-      go : (past none : Bool) → eqb number 0 ≡ none → answer past none ≡ Next.Call e n → Found file at first e n
-      go true none z q = absurd (let o : _≡_ {A = ℕ} 0 1 = cc in omega arith)
-      go false true z q = none-found (eqb-true number 0 z) (cc) (cc)
-      go false false z q = absurd (let o : _≡_ {A = ℕ} 0 1 = cc in omega arith)
+      go : (b : Bool) → eqb (firstOf (recordRows file at)) 0 ≡ b → firstOf (recordRows file at) ≡ 0
+      go true e = eqb-true (firstOf (recordRows file at)) 0 e
+      go false e = absurd (eqb-false (firstOf (recordRows file at)) 0 e (sym (file-broken file at first (eqb-false (firstOf (recordRows file at)) 0 e)) ∙ z))
 
-  pub rejected : {k : ℕ} → recordAt file at first ≡ Next.Refused k → Rejected file at first k
+  pub found : {e : Event} {n : ℕ} → recordAt file at first ≡ Next.Call e n → Found file at e n
   unfolding recordAt
-  rejected {k} q = go (leb (length file) at) refl (eqb number 0) refl q
+  found {e} {n} q = go (leb (length file) at) (eqb number 0) refl (kindOf (tagAt file at)) refl q
     where
-      go : (past : Bool) → leb (length file) at ≡ past → (none : Bool) → eqb number 0 ≡ none → answer past none ≡ Next.Refused k → Rejected file at first k
-      go true p none z q = absurd (let o : _≡_ {A = ℕ} 0 1 = cc in omega arith)
-      go false p true z q = absurd (let o : _≡_ {A = ℕ} 0 1 = cc in omega arith)
-      go false p false z q =
-          let e : k ≡ number = cc in
-          record { before-end = leb-false (length file) at p; is = e; some = λ o. eqb-false number 0 z (sym e ∙ o) }
+      go : (past none : Bool) → eqb number 0 ≡ none → (kind : Tagged) → kindOf (tagAt file at) ≡ kind → answer past none kind ≡ Next.Call e n → Found file at e n
+      go true none z kind t q = never (cc)
+      go false true z Unknown t q = never (cc)
+      go false false z kind t q = never (cc)
+      go false true z (Known k) t q =
+          let is : e ≡ eventOf (callOf k (bodyAt file at)) = cc in
+          let same : e .kind ≡ k = ap (λ (x : Event). x .kind) is ∙ kind-back k (bodyAt file at) in
+          let fine = unharmed (eqb-true number 0 z) in
+          record { next = (cc); whole = subst (Whole file at) (sym same) (whole file at fine t); unharmed = fine; event = is ∙ ap (λ (x : Kind). eventOf (callOf x (bodyAt file at))) (sym same) }
 
   ended : recordAt file at first ≡ Next.End → length file ≤ at
   unfolding recordAt
-  ended q = go (leb (length file) at) refl (eqb number 0) q
+  ended q = go (leb (length file) at) refl (eqb number 0) (kindOf (tagAt file at)) q
     where
-      go : (past : Bool) → leb (length file) at ≡ past → (none : Bool) → answer past none ≡ Next.End → length file ≤ at
-      go true p none q = leb-true (length file) at p
-      go false p true q = absurd (let o : _≡_ {A = ℕ} 0 1 = cc in omega arith)
-      go false p false q = absurd (let o : _≡_ {A = ℕ} 0 1 = cc in omega arith)
+      go : (past : Bool) → leb (length file) at ≡ past → (none : Bool) (kind : Tagged) → answer past none kind ≡ Next.End → length file ≤ at
+      go true p none kind q = leb-true (length file) at p
+      go false p true (Known k) q = never (cc)
+      go false p true Unknown q = never (cc)
+      go false p false kind q = never (cc)
 
   -- the end, exactly where nothing is left
   pub end-exactly : (recordAt file at first ≡ Next.End) ↔ (length file ≤ at)
   end-exactly = (ended, at-end file at first)
 
--- ---- the call of each event
-module _ {file : List ℕ} {at : ℕ} {first : Bool} {e : Event} {n : ℕ} (f : Found file at first e n) where
-  pub open-call : e ≡ Event.Open → callAt file at ≡ Call.Open (bodyAt file at)
-  open-call q = f .call ∙ ap (withLists file at) q
+-- ---- the call of an event, with the lists that the readers hand back
+abbrev pub withParts : List ℕ → ℕ → Kind → Event → Call
+withParts file at Kind.Open e = Call.Open (within file (sharesPart file at))
+withParts file at Kind.Grant e = Call.Grant (e .tenant) (e .amount)
+withParts file at Kind.Begin e = Call.Begin (e .tenant) (e .awaited) (within file (readsPart file at)) (within file (writesPart file at))
+withParts file at Kind.Finish e = Call.Finish (e .tenant) (e .serial)
+withParts file at Kind.Recheck e = Call.Recheck (e .tenant) (e .serial)
+withParts file at Kind.Scan e = Call.Scan (e .tenant)
+withParts file at Kind.Pick e = Call.Pick
+withParts file at Kind.Deliver e = Call.Deliver (e .tenant) (e .serial)
 
-  pub grant-call : {who amount : ℕ} → e ≡ Event.Grant who amount → callAt file at ≡ Call.Grant who amount
-  grant-call q = f .call ∙ ap (withLists file at) q
+module _ {file : List ℕ} {at : ℕ} {e : Event} {n : ℕ} (f : Found file at e n) where
+  pub within-file : n ≤ length file
+  within-file = omega (arith, f .next, f .whole .inside)
 
-  pub begin-call : {who awaited : ℕ} → e ≡ Event.Begin who awaited → callAt file at ≡ Call.Begin who awaited (readsAt file at) (writesAt file at)
-  begin-call q = f .call ∙ ap (withLists file at) q
+  pub onward : at < n
+  onward = omega (arith, f .next)
 
-  pub finish-call : {who serial : ℕ} → e ≡ Event.Finish who serial → callAt file at ≡ Call.Finish who serial
-  finish-call q = f .call ∙ ap (withLists file at) q
+  stands-as : standing file at ≡ Known (e .kind)
+  stands-as = stands file at (f .unharmed) ∙ f .whole .tag
 
-  pub recheck-call : {who serial : ℕ} → e ≡ Event.Recheck who serial → callAt file at ≡ Call.Recheck who serial
-  recheck-call q = f .call ∙ ap (withLists file at) q
+  -- by its kind
+  module _ (k : Kind) (is : e .kind ≡ k) where
+    of-kind : callAt file at e ≡ callOf k (bodyAt file at)
+    of-kind = ap (λ (x : Kind). callOf x (bodyAt file at)) is
 
-  pub scan-call : {who : ℕ} → e ≡ Event.Scan who → callAt file at ≡ Call.Scan who
-  scan-call q = f .call ∙ ap (withLists file at) q
+    says : e ≡ eventOf (callOf k (bodyAt file at))
+    says = f .event ∙ ap eventOf of-kind
 
-  pub pick-call : e ≡ Event.Pick → callAt file at ≡ Call.Pick
-  pick-call q = f .call ∙ ap (withLists file at) q
+    whole-as : Whole file at k
+    whole-as = subst (Whole file at) is (f .whole)
 
-  pub deliver-call : {who serial : ℕ} → e ≡ Event.Deliver who serial → callAt file at ≡ Call.Deliver who serial
-  deliver-call q = f .call ∙ ap (withLists file at) q
+    known-as : standing file at ≡ Known k
+    known-as = stands-as ∙ ap Known is
 
--- ---- the first record is Open, and no later one
-opened : (file : List ℕ) (at : ℕ) (e : Event) → isOpen (withLists file at e) ≡ true → e ≡ Event.Open
-opened file at Event.Open q = refl
-opened file at (Event.Grant who amount) q = cc
-opened file at (Event.Begin who awaited) q = cc
-opened file at (Event.Finish who serial) q = cc
-opened file at (Event.Recheck who serial) q = cc
-opened file at (Event.Scan who) q = cc
-opened file at Event.Pick q = cc
-opened file at (Event.Deliver who serial) q = cc
-
-pub first-opens : {file : List ℕ} {at : ℕ} {e : Event} {n : ℕ} → Found file at true e n → e ≡ Event.Open
-first-opens {file} {at} {e} f = opened file at e (sym (ap isOpen (f .call)) ∙ f .opens)
-
-pub later-opens-not : {file : List ℕ} {at : ℕ} {e : Event} {n : ℕ} → Found file at false e n → e ≡ Event.Open → ⊥
-later-opens-not f q =
-    let z : true ≡ false = sym (ap isOpen (open-call f q)) ∙ f .opens in
-    let o : _≡_ {A = ℕ} 0 1 = cc in
-    omega arith
+  pub call-of : (k : Kind) → e .kind ≡ k → callAt file at e ≡ withParts file at k e
+  unfolding callOf
+  call-of Kind.Open is = of-kind Kind.Open is ∙ ap (λ (p : Part). Call.Open (within file p)) (sym (shares-stand file at (ap opens (known-as Kind.Open is))))
+  call-of Kind.Grant is = of-kind Kind.Grant is ∙ cc (ap (λ (x : Event). x .tenant) (says Kind.Grant is), ap (λ (x : Event). x .amount) (says Kind.Grant is))
+  call-of Kind.Begin is =
+      let w = whole-as Kind.Begin is in
+      let lists = ap hasLists (known-as Kind.Begin is) in
+      let reads = reads-are w refl ∙ sym (ap (within file) (reads-stand file at lists)) in
+      let writes = writes-are w refl ∙ sym (ap (within file) (writes-stand file at lists)) in
+      of-kind Kind.Begin is ∙ cc (ap (λ (x : Event). x .tenant) (says Kind.Begin is), ap (λ (x : Event). x .awaited) (says Kind.Begin is), reads, writes)
+  call-of Kind.Finish is = of-kind Kind.Finish is ∙ cc (ap (λ (x : Event). x .tenant) (says Kind.Finish is), ap (λ (x : Event). x .serial) (says Kind.Finish is))
+  call-of Kind.Recheck is = of-kind Kind.Recheck is ∙ cc (ap (λ (x : Event). x .tenant) (says Kind.Recheck is), ap (λ (x : Event). x .serial) (says Kind.Recheck is))
+  call-of Kind.Scan is = of-kind Kind.Scan is ∙ cc (ap (λ (x : Event). x .tenant) (says Kind.Scan is))
+  call-of Kind.Pick is = of-kind Kind.Pick is
+  call-of Kind.Deliver is = of-kind Kind.Deliver is ∙ cc (ap (λ (x : Event). x .tenant) (says Kind.Deliver is), ap (λ (x : Event). x .serial) (says Kind.Deliver is))

@@ -6,7 +6,7 @@ use native.Mathlib.Nat.{zero-add, suc-add}
 use native.Mathlib.Omega.{arith}
 use lib.ListN.{take, drop, length-take, List·getD-eq-default}
 use lib.Seq.{getD-take, getD-drop, drop-drop, take-take, take-nil}
-use Rattle.events.specs.Events.{byteAt, twoAt, fourAt, lengthAt, bodyAt, countIn, Begins, readsAt, writesAt}
+use Rattle.events.specs.Events.{byteAt, twoAt, fourAt, lengthAt, bodyAt, countIn}
 
 -- ---- a part of a part
 drop-take : (m n : ℕ) (l : List ℕ) → drop m (take (m + n) l) ≡ take n (drop m l)
@@ -32,7 +32,7 @@ module _ (file : List ℕ) (a n : ℕ) where
       let next : a + (i + 2) ≡ j + 2 = omega arith in
       cc (two-of-part i j hi e, two-of-part (i + 2) (j + 2) lo next)
 
-  rest-of-part : (m j : ℕ) → m ≤ n → a + m ≡ j → drop m (take n (drop a file)) ≡ take (n - m) (drop j file)
+  pub rest-of-part : (m j : ℕ) → m ≤ n → a + m ≡ j → drop m (take n (drop a file)) ≡ take (n - m) (drop j file)
   rest-of-part m j h e =
       let whole : n ≡ m + (n - m) = omega arith in
       ap (λ (k : ℕ). drop m (take k (drop a file))) whole ∙ drop-take m (n - m) (drop a file) ∙ ap (take (n - m)) (drop-drop m a file ∙ ap (λ (k : ℕ). drop k file) e)
@@ -46,29 +46,6 @@ third-byte file at n h =
 
 pub no-third-byte : (l : List ℕ) (n : ℕ) → n < 3 → countIn (take n l) ≡ 0
 no-third-byte l n h = List·getD-eq-default (take n l) 0 {n = 2} (simp length-take (omega arith))
-
--- ---- the reads and the writes of a body
-module _ (file : List ℕ) (at : ℕ) (b : Begins file at) where
-  abbrev n : ℕ
-  n = lengthAt file at
-
-  abbrev r : ℕ
-  r = byteAt file (at + 5)
-
-  same-count : countIn (bodyAt file at) ≡ r
-  same-count = third-byte file at n (b .head)
-
-  pub reads-part : take (countIn (bodyAt file at)) (drop 3 (bodyAt file at)) ≡ readsAt file at
-  reads-part =
-      let place : at + 3 + 3 ≡ at + 6 = omega arith in
-      ap (λ (k : ℕ). take k (drop 3 (bodyAt file at))) same-count ∙ ap (take r) (rest-of-part file (at + 3) n 3 (at + 6) (b .head) place) ∙ take-take r (n - 3) (drop (at + 6) file) (b .reads)
-
-  pub writes-part : drop (3 + countIn (bodyAt file at)) (bodyAt file at) ≡ writesAt file at
-  writes-part =
-      let fits : 3 + r ≤ n = omega (arith, b .head, b .reads) in
-      let place : at + 3 + (3 + r) ≡ at + 6 + r = omega arith in
-      let left : n - (3 + r) ≡ n - 3 - r = omega arith in
-      ap (λ (k : ℕ). drop (3 + k) (bodyAt file at)) same-count ∙ rest-of-part file (at + 3) n (3 + r) (at + 6 + r) fits place ∙ ap (λ (k : ℕ). take k (drop (at + 6 + r) file)) left
 
 -- from the start of the writes to the end of the body
 pub left-behind : (at n r : ℕ) → at + 3 + n - (at + 6 + r) ≡ n - 3 - r

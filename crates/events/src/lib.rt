@@ -1,23 +1,26 @@
 // The reader of an event file: what record stands at a position, and the parts of its body.
 ghost use mathlib.Core.Path.{_≡_};
+ghost use mathlib.Core.List.{[]};
 ghost use Prim.Native.Nat.{_+_, _≤_, _<_};
 ghost use lib.ListN.{length, take, drop};
 ghost use Rattle.rules.specs.Refusals.{firstOf};
-ghost use Rattle.events.specs.Events.{twoAt, fourAt, lengthAt, bodyAt, countIn, isTag, suits as suitsTag, misplaced as misplacedTag, fileRows, tooLong, callAt, eventOf, recordAt, Inside, Suited, Begins, readsAt, writesAt};
+ghost use Rattle.rules.specs.Lists.{if_then_else_};
+ghost use Rattle.rules.specs.CallTable.{rowOf};
+ghost use Rattle.rules.specs.Runs.{event as eventWith, eventOf};
+ghost use Rattle.events.specs.declared.Tagged.the-variants.{Known};
+ghost use Rattle.events.specs.declared.Next.the-variants.{Refused};
+ghost use Rattle.events.specs.Events.{byteAt, twoAt, fourAt, lengthAt, bodyAt, countIn, kindOf, fits as fitsBody, misplaced as misplacedTag, bodyRows, recordRows, tooLong, callOf, readAs, recordAt};
+ghost use Rattle.events.specs.Events.{within, standing, sharesPart, readsPart, writesPart, Whole, IsRow, Stands};
+use rules::Event;
+use rules::Kind;
 
-// A call without its lists: tenant and amount, tenant and awaited, tenant and serial.
-pub enum Event {
-    Open,
-    Grant(u8, u32),
-    Begin(u8, u8),
-    Finish(u8, u16),
-    Recheck(u8, u16),
-    Scan(u8),
-    Pick,
-    Deliver(u8, u16),
+// Which call a tag is.
+pub enum Tagged {
+    Known(Kind),
+    Unknown,
 }
 
-// What stands at a position: a call and the position of the next record; a refusal's number; nothing any more.
+// What stands at a position: an event and the position of the next record; a refusal's number; nothing any more.
 pub enum Next {
     Call(Event, usize),
     Refused(u8),
@@ -81,75 +84,157 @@ fn count_at(s: &[u8], at: usize, len: usize) -> usize
     wide(s[at + 5])
 }
 
-// Whether a tag is known.
-fn is_tag(tag: u8) -> bool
-    ensures { λ r. ⌜ r ≡ isTag tag ⌝ }
-{
-    1 <= tag && tag <= 8
-}
-
-// Whether a body's length suits its tag.
-fn suits(tag: u8, n: usize, r: usize) -> bool
-    ensures { λ b. ⌜ b ≡ suitsTag tag n r ⌝ }
+// Which call a tag is.
+fn kind_of(tag: u8) -> Tagged
+    ensures { λ r. ⌜ r ≡ kindOf tag ⌝ }
 {
     match tag {
-        1 => n == 16,
-        2 => n == 5,
-        3 => 3 <= n && r <= n - 3,
-        6 => n == 1,
-        7 => n == 0,
-        _ => n == 3,
+        1 => Tagged::Known(Kind::Open),
+        2 => Tagged::Known(Kind::Grant),
+        3 => Tagged::Known(Kind::Begin),
+        4 => Tagged::Known(Kind::Finish),
+        5 => Tagged::Known(Kind::Recheck),
+        6 => Tagged::Known(Kind::Scan),
+        7 => Tagged::Known(Kind::Pick),
+        8 => Tagged::Known(Kind::Deliver),
+        _ => Tagged::Unknown,
     }
 }
 
-// Whether the first record is not Open, or a later one is.
-fn misplaced(tag: u8, first: bool) -> bool
-    ensures { λ r. ⌜ r ≡ misplacedTag tag first ⌝ }
-{
-    if first { tag != 1 } else { tag == 1 }
+// The row of a call: whether it opens a new sequence of calls, whether its body has lists of records, and how many bytes its
+// body has if not.
+struct Shape {
+    opens: bool,
+    lists: bool,
+    bytes: usize,
 }
 
-// The number of a record's refusal, 0 for none.
-fn refusal(s: &[u8], at: usize, first: bool) -> u8
-    requires { ⌜ at < length (now s) ⌝ }
-    ensures { λ r. ⌜ r ≡ firstOf (fileRows (now (s .entry)) at first) ⌝ }
+fn row(opens: bool, lists: bool, bytes: usize) -> Shape
+    ensures { λ r. ⌜ (r .opens ≡ opens) × (r .lists ≡ lists) × (r .bytes ≡ bytes) ⌝ }
 {
-    let left = s.len() - at;
-    if left < 3 {
-        return 21;
+    Shape {
+        opens: opens,
+        lists: lists,
+        bytes: bytes,
     }
-    let tag = s[at];
-    if !is_tag(tag) {
-        return 20;
+}
+
+fn shape_of(kind: Kind) -> Shape
+    ensures { λ r. ⌜ IsRow kind r ⌝ }
+{
+    match kind {
+        Kind::Open => row(true, false, 16),
+        Kind::Grant => row(false, false, 5),
+        Kind::Begin => row(false, true, 0),
+        Kind::Finish => row(false, false, 3),
+        Kind::Recheck => row(false, false, 3),
+        Kind::Scan => row(false, false, 1),
+        Kind::Pick => row(false, false, 0),
+        Kind::Deliver => row(false, false, 3),
     }
+}
+
+// Whether a body's length suits its call: r is the third byte of the body.
+fn fits(kind: Kind, n: usize, r: usize) -> bool
+    ensures { λ b. ⌜ b ≡ fitsBody (rowOf kind .body) n r ⌝ }
+{
+    let row = shape_of(kind);
+    if row.lists {
+        3 <= n && r <= n - 3
+    } else {
+        n == row.bytes
+    }
+}
+
+// What is wrong with the body of a record whose tag is known: the number of its refusal, 0 for none.
+fn body_broken(s: &[u8], at: usize, kind: Kind) -> u8
+    requires { ⌜ at + 3 ≤ length (now s) ⌝ }
+    ensures { λ r. ⌜ r ≡ firstOf (bodyRows (now (s .entry)) at (Known kind)) ⌝ }
+{
+    let left = s.len() - at - 3;
     let len = length_at(s, at);
-    if left - 3 < len {
+    if left < len {
         return 21;
     }
-    if !suits(tag, len, count_at(s, at, len)) {
+    if !fits(kind, len, count_at(s, at, len)) {
         return 22;
-    }
-    if misplaced(tag, first) {
-        return 23;
     }
     0
 }
 
-// The event of a record whose length suits its tag.
-fn event_at(s: &[u8], at: usize) -> Event
-    requires { ⌜ Suited (now s) at ⌝ }
-    ensures { λ r. ⌜ r ≡ eventOf (callAt (now (s .entry)) at) ⌝ }
+// What is wrong with the record at a position by itself.
+fn broken(s: &[u8], at: usize) -> u8
+    ensures { λ r. ⌜ r ≡ firstOf (recordRows (now (s .entry)) at) ⌝ }
 {
-    match s[at] {
-        1 => Event::Open,
-        2 => Event::Grant(s[at + 3], amount_at(s, at + 4)),
-        3 => Event::Begin(s[at + 3], s[at + 4]),
-        4 => Event::Finish(s[at + 3], serial_at(s, at + 4)),
-        5 => Event::Recheck(s[at + 3], serial_at(s, at + 4)),
-        6 => Event::Scan(s[at + 3]),
-        7 => Event::Pick,
-        _ => Event::Deliver(s[at + 3], serial_at(s, at + 4)),
+    let n = s.len();
+    if n <= at {
+        return 21;
     }
+    if n - at < 3 {
+        return 21;
+    }
+    let found = kind_of(s[at]);
+    match found {
+        Tagged::Known(kind) => body_broken(s, at, kind),
+        Tagged::Unknown => 20,
+    }
+}
+
+// Whether the first record is not Open, or a later one is.
+fn misplaced(kind: Kind, first: bool) -> bool
+    ensures { λ r. ⌜ r ≡ misplacedTag (Known kind) first ⌝ }
+{
+    let row = shape_of(kind);
+    if first { !row.opens } else { row.opens }
+}
+
+fn event(kind: Kind, tenant: u8, awaited: u8, serial: u16, amount: u32) -> Event
+    ensures { λ r. ⌜ r ≡ eventWith kind tenant awaited serial amount ⌝ }
+{
+    Event {
+        kind: kind,
+        tenant: tenant,
+        awaited: awaited,
+        serial: serial,
+        amount: amount,
+    }
+}
+
+// The event of a body that names an entry: its tenant and its serial.
+fn entry_event(s: &[u8], at: usize, kind: Kind) -> Event
+    requires { ⌜ at + 6 ≤ length (now s) ⌝ }
+    ensures { λ r. ⌜ r ≡ eventWith kind (byteAt (now (s .entry)) (at + 3)) 0 (twoAt (now (s .entry)) (at + 4)) 0 ⌝ }
+{
+    event(kind, s[at + 3], 0, serial_at(s, at + 4), 0)
+}
+
+// The event of a whole record.
+fn event_at(s: &[u8], at: usize, kind: Kind) -> Event
+    requires { ⌜ Whole (now s) at kind ⌝ }
+    ensures { λ r. ⌜ r ≡ eventOf (callOf kind (bodyAt (now (s .entry)) at)) ⌝ }
+{
+    match kind {
+        Kind::Open => event(kind, 0, 0, 0, 0),
+        Kind::Grant => event(kind, s[at + 3], 0, 0, amount_at(s, at + 4)),
+        Kind::Begin => event(kind, s[at + 3], s[at + 4], 0, 0),
+        Kind::Finish => entry_event(s, at, kind),
+        Kind::Recheck => entry_event(s, at, kind),
+        Kind::Scan => event(kind, s[at + 3], 0, 0, 0),
+        Kind::Pick => event(kind, 0, 0, 0, 0),
+        Kind::Deliver => entry_event(s, at, kind),
+    }
+}
+
+// A whole record: misplaced, or its event and where the next record begins.
+fn placed(s: &[u8], at: usize, first: bool, kind: Kind) -> Next
+    requires { ⌜ Whole (now s) at kind ⌝ }
+    ensures { λ r. ⌜ r ≡ (if misplacedTag (Known kind) first then Refused 23 else readAs (Known kind) (now (s .entry)) at) ⌝ }
+{
+    if misplaced(kind, first) {
+        return Next::Refused(23);
+    }
+    let e = event_at(s, at, kind);
+    Next::Call(e, at + 3 + length_at(s, at))
 }
 
 // What stands at a position, whatever the bytes and the position are.
@@ -159,29 +244,63 @@ pub fn record_at(s: &[u8], at: usize, first: bool) -> Next
     if s.len() <= at {
         return Next::End;
     }
-    let number = refusal(s, at, first);
+    let number = broken(s, at);
     if number != 0 {
         return Next::Refused(number);
     }
-    let e = event_at(s, at);
-    Next::Call(e, at + 3 + length_at(s, at))
+    let found = kind_of(s[at]);
+    match found {
+        Tagged::Known(kind) => placed(s, at, first, kind),
+        Tagged::Unknown => Next::Refused(20),
+    }
 }
 
-// The shares of an Open: its body.
-pub fn shares(s: &[u8], at: usize) -> &[u8]
-    requires { ⌜ Inside (now s) at ⌝ }
-    ensures { λ r. ⌜ now r ≡ bodyAt (now (s .entry)) at ⌝ }
+// The row of the whole record that stands at a position; neither opens nor has lists what is broken.
+fn shape_at(s: &[u8], at: usize) -> Shape
+    ensures { λ r. ⌜ Stands (standing (now (s .entry)) at) r ⌝ }
 {
+    if broken(s, at) != 0 {
+        return row(false, false, 0);
+    }
+    let found = kind_of(s[at]);
+    match found {
+        Tagged::Known(kind) => shape_of(kind),
+        Tagged::Unknown => row(false, false, 0),
+    }
+}
+
+// No bytes, at the end of the caller's.
+fn nothing(s: &[u8]) -> &[u8]
+    ensures { λ r. ⌜ now r ≡ [] ⌝ }
+    ensures { λ r. ⌜ (r .ptr .0 ≡ s .entry .ptr .0) × (r .ptr .1 ≡ s .entry .ptr .1 + length (now (s .entry))) ⌝ }
+{
+    let end = s.len();
+    &s[end..end]
+}
+
+// The shares of an Open, as a part of the caller's own bytes; an empty part, at their end, where no Open stands.
+pub fn shares(s: &[u8], at: usize) -> &[u8]
+    ensures { λ r. ⌜ now r ≡ within (now (s .entry)) (sharesPart (now (s .entry)) at) ⌝ }
+    ensures { λ r. ⌜ (r .ptr .0 ≡ s .entry .ptr .0) × (r .ptr .1 ≡ s .entry .ptr .1 + sharesPart (now (s .entry)) at .from) ⌝ }
+{
+    let row = shape_at(s, at);
+    if !row.opens {
+        return nothing(s);
+    }
     let a = at + 3;
     let e = a + length_at(s, at);
     &s[a..e]
 }
 
-// The reads of a Begin, as a part of the caller's own bytes.
+// The reads of a Begin, in the same way.
 pub fn reads(s: &[u8], at: usize) -> &[u8]
-    requires { ⌜ Begins (now s) at ⌝ }
-    ensures { λ r. ⌜ now r ≡ readsAt (now (s .entry)) at ⌝ }
+    ensures { λ r. ⌜ now r ≡ within (now (s .entry)) (readsPart (now (s .entry)) at) ⌝ }
+    ensures { λ r. ⌜ (r .ptr .0 ≡ s .entry .ptr .0) × (r .ptr .1 ≡ s .entry .ptr .1 + readsPart (now (s .entry)) at .from) ⌝ }
 {
+    let row = shape_at(s, at);
+    if !row.lists {
+        return nothing(s);
+    }
     let a = at + 6;
     let e = a + wide(s[at + 5]);
     &s[a..e]
@@ -189,11 +308,14 @@ pub fn reads(s: &[u8], at: usize) -> &[u8]
 
 // The writes of a Begin, which are the rest of its body.
 pub fn writes(s: &[u8], at: usize) -> &[u8]
-    requires { ⌜ Begins (now s) at ⌝ }
-    ensures { λ r. ⌜ now r ≡ writesAt (now (s .entry)) at ⌝ }
+    ensures { λ r. ⌜ now r ≡ within (now (s .entry)) (writesPart (now (s .entry)) at) ⌝ }
+    ensures { λ r. ⌜ (r .ptr .0 ≡ s .entry .ptr .0) × (r .ptr .1 ≡ s .entry .ptr .1 + writesPart (now (s .entry)) at .from) ⌝ }
 {
-    let a = at + 6;
-    let w = a + wide(s[at + 5]);
+    let row = shape_at(s, at);
+    if !row.lists {
+        return nothing(s);
+    }
+    let a = at + 6 + wide(s[at + 5]);
     let e = at + 3 + length_at(s, at);
-    &s[w..e]
+    &s[a..e]
 }

@@ -7,23 +7,28 @@ use lib.ListN.{length, length-append}
 use Rattle.rules.specs.declared.Mode.{Mode}
 use Rattle.rules.specs.declared.Mode.the-variants.{Free, Waiting, Blocked}
 use Rattle.rules.specs.declared.Answer.the-variants.{Refused, Named}
+use Rattle.rules.specs.declared.Kind.{Kind}
+use Rattle.rules.specs.declared.Kind.the-variants.{Open, Grant, Begin, Finish, Recheck, Scan, Pick, Deliver}
+use Rattle.rules.specs.CallTable.{rowOf}
 use Rattle.rules.specs.Said.{said, wordOf}
 use Rattle.listing.specs.declared.Name.{Name}
-use Rattle.listing.specs.declared.Name.the-variants.{Open, Grant, Begin, Finish, Recheck, Scan, Pick, Deliver, File}
 use Rattle.listing.specs.Decimal.{decimal}
 use Rattle.listing.specs.Listing.{colon, point, nameOf, answerText}
 use Rattle.listing.proofs.Decimal.{decimal-short}
 
+kind-short : (kind : Kind) → length (rowOf kind .name) ≤ 7
+kind-short Open = omega arith
+kind-short Grant = omega arith
+kind-short Begin = omega arith
+kind-short Finish = omega arith
+kind-short Recheck = omega arith
+kind-short Scan = omega arith
+kind-short Pick = omega arith
+kind-short Deliver = omega arith
+
 pub name-short : (name : Name) → length (nameOf name) ≤ 7
-name-short Open = omega arith
-name-short Grant = omega arith
-name-short Begin = omega arith
-name-short Finish = omega arith
-name-short Recheck = omega arith
-name-short Scan = omega arith
-name-short Pick = omega arith
-name-short Deliver = omega arith
-name-short File = omega arith
+name-short (Name.Call kind) = kind-short kind
+name-short Name.File = omega arith
 
 pub word-short : (mode : Mode) → length (wordOf mode) ≤ 7
 unfolding wordOf

@@ -2,10 +2,10 @@
 use Prim.Native.Nat.{ℕ}
 use mathlib.Core.List.{List, [], _∷_, _++_}
 use Rattle.rules.specs.declared.Answer.{Answer}
-use Rattle.rules.specs.declared.Answer.the-variants.{Ok, Done, Still, Nothing, Refused, Named}
+use Rattle.rules.specs.CallTable.{rowOf}
 use Rattle.rules.specs.Said.{said}
 use Rattle.listing.specs.declared.Name.{Name}
-use Rattle.listing.specs.declared.Name.the-variants.{Open, Grant, Begin, Finish, Recheck, Scan, Pick, Deliver, File}
+use Rattle.listing.specs.declared.Name.the-variants.{Call, File}
 use Rattle.listing.specs.declared.Left.{Left}
 use Rattle.listing.specs.declared.Left.the-variants.{Fuel, Nobody}
 use Rattle.listing.specs.Decimal.{decimal}
@@ -26,27 +26,11 @@ point = 46
 abbrev pub dash : ℕ
 dash = 45
 
--- "call (its name in small letters"; "A file refusal prints the call file":
--- open, grant, begin, finish, recheck, scan, pick, deliver, file
+-- "call (its name in small letters; a second tag for the same call prints the same name)", by the table of calls; "A file
+-- refusal prints the call file"
 abbrev pub nameOf : Name → List ℕ
-nameOf Open = 111 ∷ 112 ∷ 101 ∷ 110 ∷ []
-nameOf Grant = 103 ∷ 114 ∷ 97 ∷ 110 ∷ 116 ∷ []
-nameOf Begin = 98 ∷ 101 ∷ 103 ∷ 105 ∷ 110 ∷ []
-nameOf Finish = 102 ∷ 105 ∷ 110 ∷ 105 ∷ 115 ∷ 104 ∷ []
-nameOf Recheck = 114 ∷ 101 ∷ 99 ∷ 104 ∷ 101 ∷ 99 ∷ 107 ∷ []
-nameOf Scan = 115 ∷ 99 ∷ 97 ∷ 110 ∷ []
-nameOf Pick = 112 ∷ 105 ∷ 99 ∷ 107 ∷ []
-nameOf Deliver = 100 ∷ 101 ∷ 108 ∷ 105 ∷ 118 ∷ 101 ∷ 114 ∷ []
+nameOf (Call kind) = rowOf kind .name
 nameOf File = 102 ∷ 105 ∷ 108 ∷ 101 ∷ []
-
--- the numbers behind the word: a refusal's own, or an entry's "tenant.serial"
-abbrev pub numbersOf : Answer → List ℕ
-numbersOf Ok = said Ok .values
-numbersOf Done = said Done .values
-numbersOf Still = said Still .values
-numbersOf Nothing = said Nothing .values
-numbersOf (Refused number) = said (Refused number) .number ∷ []
-numbersOf (Named mode tenant serial) = said (Named mode tenant serial) .values
 
 -- a point before each number
 abbrev pub dotted : List ℕ → List ℕ
@@ -60,7 +44,7 @@ behind (n ∷ ns) = colon ∷ decimal n ++ dotted ns
 
 -- "answer (ok, done, still, nothing, refused: and number, or state:tenant.serial)"
 unfoldable pub answerText : Answer → List ℕ
-answerText answer = said answer .word ++ behind (numbersOf answer)
+answerText answer = said answer .word ++ behind (said answer .values)
 
 -- "the named tenant's fuel afterwards, or - with no valid tenant named"
 unfoldable pub leftText : Left → List ℕ

@@ -3,11 +3,13 @@ ghost use mathlib.Core.List.{[], _∷_};
 ghost use Prim.Native.Nat.{_+_, _≤_, _<_};
 ghost use lib.ListN.{length};
 ghost use Rattle.rules.specs.declared.Answer.the-variants.{Refused, Named};
+ghost use Rattle.rules.specs.CallTable.{rowOf};
 ghost use Rattle.rules.specs.Said.{wordOf};
 ghost use Rattle.listing.specs.Decimal.{decimal};
 ghost use Rattle.listing.specs.Listing.{nameOf, answerText, leftText, lineOf, headerText};
 ghost use Rattle.listing.specs.Written.{Written, Appended, Ends};
 use rules::Answer;
+use rules::Kind;
 use rules::Mode;
 
 // The first `len` bytes are the line, with its line feed. The longest has 10 + 1 + 7 + 1 + 17 + 1 + 10 + 1 + 10 + 1 = 59.
@@ -16,16 +18,9 @@ pub struct Line {
     pub bytes: [u8; 64],
 }
 
-// The name of a call; `File` is what a file refusal is printed under.
+// What a line is printed under: the name of a call, or `file` for a file refusal.
 pub enum Name {
-    Open,
-    Grant,
-    Begin,
-    Finish,
-    Recheck,
-    Scan,
-    Pick,
-    Deliver,
+    Call(Kind),
     File,
 }
 
@@ -114,19 +109,28 @@ fn with_number(l: Line, n: u32) -> Line
 }
 
 // The line with the name of a call behind it.
+fn with_kind(l: Line, kind: Kind) -> Line
+    requires { ⌜ l .len + 7 ≤ 64 ⌝ }
+    ensures { λ r. ⌜ Appended l (rowOf kind .name) r ⌝ }
+{
+    match kind {
+        Kind::Open => with_text(l, b"open"),
+        Kind::Grant => with_text(l, b"grant"),
+        Kind::Begin => with_text(l, b"begin"),
+        Kind::Finish => with_text(l, b"finish"),
+        Kind::Recheck => with_text(l, b"recheck"),
+        Kind::Scan => with_text(l, b"scan"),
+        Kind::Pick => with_text(l, b"pick"),
+        Kind::Deliver => with_text(l, b"deliver"),
+    }
+}
+
 fn with_name(l: Line, name: Name) -> Line
     requires { ⌜ l .len + 7 ≤ 64 ⌝ }
     ensures { λ r. ⌜ Appended l (nameOf name) r ⌝ }
 {
     match name {
-        Name::Open => with_text(l, b"open"),
-        Name::Grant => with_text(l, b"grant"),
-        Name::Begin => with_text(l, b"begin"),
-        Name::Finish => with_text(l, b"finish"),
-        Name::Recheck => with_text(l, b"recheck"),
-        Name::Scan => with_text(l, b"scan"),
-        Name::Pick => with_text(l, b"pick"),
-        Name::Deliver => with_text(l, b"deliver"),
+        Name::Call(kind) => with_kind(l, kind),
         Name::File => with_text(l, b"file"),
     }
 }

@@ -1,10 +1,11 @@
 -- A request that joins: what the counters, its own count included, tell of it, and the table with it at the back.
-use Prim.Native.Nat.{ℕ, _+_, _-_}
+use Prim.Native.Nat.{ℕ, zero, suc, _+_, _-_, _≤_, _<_}
 use mathlib.Core.Path.{_≡_, refl, ap, subst, _∙_}
 use mathlib.Core.Bool.{Bool, true, _&&_, _||_}
 use mathlib.Core.List.{List, [], _∷_, _++_, map}
 use lib.Dec.{eqb, ltb}
-use lib.ListN.{set}
+use native.Mathlib.Omega.{arith}
+use lib.ListN.{getD, take, set}
 use lib.Seq.{set-set}
 use Rattle.rules.specs.Lists.{if_then_else_, some, every}
 use Rattle.rules.specs.Records.{member, WellFormed}
@@ -12,8 +13,10 @@ use Rattle.rules.specs.Request.{Request, conflictsAny, promoted, admitted}
 use Rattle.rules.specs.Table.{isTenant, meterOf, withMeter, spent, numbered, burn}
 use Rattle.rules.specs.Counters.{cx, cs, figure2, alone}
 use Rattle.rules.specs.Calls.{joined}
+use Rattle.rules.specs.Sound.{Each}
 use Rattle.rules.proofs.Tests.{if-either}
 use Rattle.rules.proofs.Lists.{some-in, every-in}
+use Rattle.rules.proofs.Order.{each-append}
 use Rattle.rules.proofs.Meters.{Sixteen, meter-own}
 use Rattle.rules.proofs.Mapped.{map-set}
 use Rattle.rules.proofs.Verdicts.{figure2-conflicts}
@@ -49,6 +52,15 @@ module _ {x y : List ℕ} {l : List Request} (w : Counts (λ a. a .writes) x l) 
       cc (p, q)
 
 -- ---- the entry that joins
+-- its records are bytes
+each-byte : (n : ℕ) (xs : List ℕ) → ((k : ℕ) → getD xs k 0 < 256) → Each (λ r. r ≤ 255) (take n xs)
+each-byte zero xs below = Each.none
+each-byte (suc n) [] below = Each.none
+each-byte (suc n) (x ∷ xs) below = let small : x ≤ 255 = omega (arith, below 0) in Each.also small (each-byte n xs (λ k. below (suc k)))
+
+pub records-small : (e : Entry) → Lists e → Each (λ r. r ≤ 255) (request e .reads ++ request e .writes)
+records-small e b = each-append (each-byte (e .nr) (e .reads) (b .reads .below)) (each-byte (e .nw) (e .writes) (b .writes .below))
+
 -- the lists stay as they were asked
 pub admitted-reads : (q : List Request) (e : Request) → admitted q e .reads ≡ e .reads
 unfolding admitted promoted

@@ -3,7 +3,7 @@ use Prim.Native.Nat.{ℕ}
 use mathlib.Core.Path.{_≡_}
 use mathlib.Core.List.{List}
 use Rattle.rules.specs.Table.{Table, meterOf, spent}
-use Rattle.rules.specs.Prices.{clause9, looks, searching}
+use Rattle.rules.specs.Prices.{clause9, pricesOf, looks, searching}
 use Rattle.rules.specs.Scan.{End, found, nothing, short, Walk, Maps}
 use Rattle.rules.specs.Calls.{search}
 use Rattle.maps.specs.Maps.{inMap}
@@ -30,6 +30,6 @@ pub record Looked (w : Walk) (m : Meter) (r : Search) : Type 0 where
 
 -- the same with the search's own unit: it ends as the law book's search of the tenant does, and the tenant's meter has paid
 pub record Ended (t : Table) (who : ℕ) (r : Search) : Type 0 where
-  pub end : endOf (r .found) ≡ search clause9 t who .end
-  pub burnt : r .burnt ≡ searching clause9 (search clause9 t who .looked)
-  pub paid : meterView (r .meter) ≡ spent (meterOf t who) (searching clause9 (search clause9 t who .looked))
+  pub end : endOf (r .found) ≡ search (pricesOf t) t who .end
+  pub burnt : r .burnt ≡ searching (pricesOf t) (search (pricesOf t) t who .looked)
+  pub paid : meterView (r .meter) ≡ spent (meterOf t who) (searching (pricesOf t) (search (pricesOf t) t who .looked))

@@ -7,7 +7,7 @@ use Rattle.rules.specs.declared.Answer.{Answer}
 use Rattle.rules.specs.declared.Answer.the-variants.{Refused}
 use Rattle.rules.specs.Request.{Request, nobody, promoted}
 use Rattle.rules.specs.Table.{Table, meterOf, burn}
-use Rattle.rules.specs.Prices.{clause9, charge}
+use Rattle.rules.specs.Prices.{pricesOf, charge}
 use Rattle.rules.specs.Calls.{named, withEntry}
 use Rattle.rules.specs.Calls.{Outcome as LawOutcome}
 use Rattle.rules.specs.Sound.{SoundTable}
@@ -46,9 +46,9 @@ pub record Did (r : Outcome) (o : LawOutcome) : Type 0 where
 -- a tenant's call that is refused with a number
 abbrev pub refusedWith : Table → ℕ → ℕ → LawOutcome
 refusedWith t who number = record {
-  table = burn who (charge clause9 (meterOf t who .fuel) number) t;
+  table = burn who (charge (pricesOf t) (meterOf t who .fuel) number) t;
   answer = Refused number;
-  burnt = charge clause9 (meterOf t who .fuel) number;
+  burnt = charge (pricesOf t) (meterOf t who .fuel) number;
 }
 
 -- the same records read and written

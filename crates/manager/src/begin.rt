@@ -4,7 +4,7 @@ ghost use Prim.Native.Nat.{_+_, _*_, _≤_};
 ghost use lib.ListN.{length};
 ghost use Rattle.rules.specs.Lists.{if_then_else_};
 ghost use Rattle.rules.specs.Request.{promoted};
-ghost use Rattle.rules.specs.Prices.{clause9};
+ghost use Rattle.rules.specs.Prices.{pricesOf};
 ghost use Rattle.rules.specs.Refusals.{firstOf, beginRows};
 ghost use Rattle.rules.specs.Counters.{figure2};
 ghost use Rattle.rules.specs.Calls.{asked, beginOf};
@@ -32,7 +32,7 @@ fn price(reads: &[u8], writes: &[u8]) -> u32
 // Refusals 1 to 9 in number order.
 fn refusal(s: State, who: u8, awaited: u8, reads: &[u8], writes: &[u8]) -> u8
     requires { ⌜ Sound s ⌝ }
-    ensures { λ r. ⌜ r ≡ firstOf (beginRows clause9 (view s) (asked (view s) who awaited (now (reads .entry)) (now (writes .entry)))) ⌝ }
+    ensures { λ r. ⌜ r ≡ firstOf (beginRows (pricesOf (view s)) (view s) (asked (view s) who awaited (now (reads .entry)) (now (writes .entry)))) ⌝ }
 {
     if !tenants::is_tenant(who) {
         return 1;
@@ -87,8 +87,8 @@ fn admitted(cx: [u8; 256], cs: [u8; 256], e: Entry) -> Entry
 // A request without a refusal joins the back, and pays.
 fn admit(s: State, who: u8, awaited: u8, reads: &[u8], writes: &[u8]) -> Outcome
     requires { ⌜ Sound s ⌝ }
-    requires { ⌜ firstOf (beginRows clause9 (view s) (asked (view s) who awaited (now reads) (now writes))) ≡ 0 ⌝ }
-    ensures { λ r. ⌜ Did r (beginOf clause9 (view s) who awaited (now (reads .entry)) (now (writes .entry))) ⌝ }
+    requires { ⌜ firstOf (beginRows (pricesOf (view s)) (view s) (asked (view s) who awaited (now reads) (now writes))) ≡ 0 ⌝ }
+    ensures { λ r. ⌜ Did r (beginOf (pricesOf (view s)) (view s) who awaited (now (reads .entry)) (now (writes .entry))) ⌝ }
 {
     let m = meters::meter_of(s, who);
     let named = meter::numbered(m);
@@ -124,7 +124,7 @@ fn admit(s: State, who: u8, awaited: u8, reads: &[u8], writes: &[u8]) -> Outcome
 
 pub fn begin(s: State, who: u8, awaited: u8, reads: &[u8], writes: &[u8]) -> Outcome
     requires { ⌜ Sound s ⌝ }
-    ensures { λ r. ⌜ Did r (beginOf clause9 (view s) who awaited (now (reads .entry)) (now (writes .entry))) ⌝ }
+    ensures { λ r. ⌜ Did r (beginOf (pricesOf (view s)) (view s) who awaited (now (reads .entry)) (now (writes .entry))) ⌝ }
 {
     let number = refusal(s, who, awaited, reads, writes);
     if number != 0 {

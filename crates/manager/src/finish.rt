@@ -1,6 +1,6 @@
 // Finish: a Free entry leaves, and burns nothing: its release was paid at admission.
 ghost use mathlib.Core.Path.{_≡_};
-ghost use Rattle.rules.specs.Prices.{clause9};
+ghost use Rattle.rules.specs.Prices.{pricesOf};
 ghost use Rattle.rules.specs.Refusals.{firstOf, finishRows};
 ghost use Rattle.rules.specs.Calls.{finishOf};
 ghost use Rattle.manager.specs.State.{view, Sound, Did};
@@ -43,7 +43,7 @@ fn refusal(s: State, who: u8, serial: u16) -> u8
 
 pub fn finish(s: State, who: u8, serial: u16) -> Outcome
     requires { ⌜ Sound s ⌝ }
-    ensures { λ r. ⌜ Did r (finishOf clause9 (view s) who serial) ⌝ }
+    ensures { λ r. ⌜ Did r (finishOf (pricesOf (view s)) (view s) who serial) ⌝ }
 {
     let number = refusal(s, who, serial);
     if number != 0 {

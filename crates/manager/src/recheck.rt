@@ -1,6 +1,6 @@
 // Recheck: a Blocked entry is promoted if the counters show no one else at its records.
 ghost use mathlib.Core.Path.{_≡_};
-ghost use Rattle.rules.specs.Prices.{clause9};
+ghost use Rattle.rules.specs.Prices.{pricesOf};
 ghost use Rattle.rules.specs.Refusals.{firstOf, recheckRows};
 ghost use Rattle.rules.specs.Calls.{recheckOf};
 ghost use Rattle.manager.specs.State.{view, Sound, Did};
@@ -15,7 +15,7 @@ use rules::Answer;
 // Refusals in the order 1, 2, 10, 11, 9.
 fn refusal(s: State, who: u8, serial: u16) -> u8
     requires { ⌜ Sound s ⌝ }
-    ensures { λ r. ⌜ r ≡ firstOf (recheckRows clause9 (view s) who serial) ⌝ }
+    ensures { λ r. ⌜ r ≡ firstOf (recheckRows (pricesOf (view s)) (view s) who serial) ⌝ }
 {
     if !tenants::is_tenant(who) {
         return 1;
@@ -44,7 +44,7 @@ fn refusal(s: State, who: u8, serial: u16) -> u8
 
 pub fn recheck(s: State, who: u8, serial: u16) -> Outcome
     requires { ⌜ Sound s ⌝ }
-    ensures { λ r. ⌜ Did r (recheckOf clause9 (view s) who serial) ⌝ }
+    ensures { λ r. ⌜ Did r (recheckOf (pricesOf (view s)) (view s) who serial) ⌝ }
 {
     let number = refusal(s, who, serial);
     if number != 0 {

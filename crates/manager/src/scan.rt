@@ -7,7 +7,7 @@ ghost use Prim.Native.Nat.{_<_};
 ghost use lib.Dec.{eqb};
 ghost use lib.ListN.{getD, take};
 ghost use Rattle.rules.specs.Request.{nobody, conflictsAny, isBlocked};
-ghost use Rattle.rules.specs.Prices.{clause9};
+ghost use Rattle.rules.specs.Prices.{clause9, pricesOf};
 ghost use Rattle.rules.specs.Refusals.{firstOf, scanRows};
 ghost use Rattle.rules.specs.Scan.{clearBy, scanWalk};
 ghost use Rattle.rules.specs.Calls.{scanOf};
@@ -169,7 +169,7 @@ fn ended(s: State, who: u8, w: Search) -> Outcome
     requires { ⌜ Sound s ⌝ }
     requires { ⌜ firstOf (scanRows (view s) who) ≡ 0 ⌝ }
     requires { ⌜ Ended (view s) who w ⌝ }
-    ensures { λ r. ⌜ Did r (scanOf clause9 (view s) who) ⌝ }
+    ensures { λ r. ⌜ Did r (scanOf (pricesOf (view s)) (view s) who) ⌝ }
 {
     let found = w.found;
     let m = w.meter;
@@ -207,7 +207,7 @@ fn ended(s: State, who: u8, w: Search) -> Outcome
 
 pub fn scan(s: State, who: u8) -> Outcome
     requires { ⌜ Sound s ⌝ }
-    ensures { λ r. ⌜ Did r (scanOf clause9 (view s) who) ⌝ }
+    ensures { λ r. ⌜ Did r (scanOf (pricesOf (view s)) (view s) who) ⌝ }
 {
     let number = refusal(s, who);
     if number != 0 {

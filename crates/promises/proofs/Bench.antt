@@ -1,40 +1,40 @@
 -- The ten bench examples hold. E1 and E2 are computed; the others follow from what an admitted request does, and from
 -- the order of the refusals.
-use Prim.Native.Nat.{ℕ, _+_, _-_, _≤_, _<_}
+use Prim.Native.Nat.{ℕ, _+_, _*_, _-_, _≤_, _<_}
 use mathlib.Core.Path.{_≡_, refl, sym, ap, _∙_}
-use mathlib.Core.Bool.{true, false}
+use mathlib.Core.Bool.{Bool, true, false}
 use mathlib.Core.List.{List, [], _∷_}
 use native.Mathlib.Omega.{arith}
 use lib.Dec.{eqb, ltb, leb}
 use lib.ListN.{length}
 use borrow.Author.Tests.{eqb-true, ne-eqb, eq-eqb, lt-ltb, lt-leb}
+use Rattle.rules.specs.declared.Mode.{Mode}
 use Rattle.rules.specs.declared.Mode.the-variants.{Free, Blocked}
 use Rattle.rules.specs.declared.Answer.the-variants.{Ok, Done, Nothing}
-use Rattle.rules.specs.Lists.{some, every, countIf, total, before}
+use Rattle.rules.specs.Lists.{if_then_else_, some, every, countIf, total, before}
 use Rattle.rules.specs.Records.{member, rising, risingPast, meets, WellFormed}
-use Rattle.rules.specs.Request.{Request, size, conflict, withMode, promoted, admitted}
+use Rattle.rules.specs.Request.{Request, requested, size, conflict, withMode, promoted, admitted}
 use Rattle.rules.specs.Table.{Meter, Table, meterOf, placesOf, withMeter, fresh, spent, numbered, burn}
 use Rattle.rules.specs.Prices.{clause9, looks, costly, charge, admission}
 use Rattle.rules.specs.Refusals.{firstOf, beginRows, finishRows, recheckRows, scanRows, grantRows, openRows}
 use Rattle.rules.specs.Counters.{cx, cs, alone}
 use Rattle.rules.specs.Scan.{scanWalk}
-use Rattle.rules.specs.Calls.{beginOf, finishOf, recheckOf, scanOf, openOf, grantOf, asked, joined}
-use Rattle.rules.specs.Said.{wordOf}
-use Rattle.rules.specs.Runs.{Run, runOf, after, step}
+use Rattle.rules.specs.Calls.{Outcome, named, beginOf, finishOf, recheckOf, scanOf, openOf, grantOf, asked, joined}
+use Rattle.rules.specs.Runs.{Run, runOf, after, step, number}
 use Rattle.rules.specs.Runs.Call.{Scan}
-use Rattle.rules.proofs.Tests.{and-false, if-cases}
+use Rattle.rules.proofs.Tests.{and-false, if-either, if-cases}
 use Rattle.rules.proofs.Lists.{count-le}
 use Rattle.rules.proofs.Meters.{Sixteen, meter-own, meter-with, sixteen-with}
 use Rattle.rules.proofs.Admission.{Admissible, begin-admits}
-use Rattle.promises.specs.Bench.{TenExamples, Tenant, Spare, idle, twelveLines, afterLine, begins, secondOf, word, number, left}
+use Rattle.promises.specs.Bench.{TenExamples, Tenant, Spare, SpareTwo, own, entry, idle, twelveLines, afterLine, begins, reader, readerThen, left}
 
 -- ---- the twelve lines, computed
 line-7 : (r : Run) → let q = afterLine 7 r .queue in (cx q 10 ≡ 2) × (cx q 11 ≡ 1) × (cx q 12 ≡ 2)
-unfolding twelveLines runOf after step openOf grantOf beginOf firstOf openRows grantRows beginRows fresh total countIf some member rising risingPast meets size admitted promoted conflict charge costly
+unfolding twelveLines runOf after openOf grantOf beginOf firstOf openRows grantRows beginRows fresh total countIf some member rising risingPast meets size admitted promoted conflict charge costly
 line-7 r = (refl, refl, refl)
 
 line-8 : (r : Run) → (cx (afterLine 8 r .queue) 10 ≡ 1) × (step clause9 (afterLine 9 r) (Scan 2) .burnt ≡ 1 + 2 + 3)
-unfolding twelveLines runOf after step openOf grantOf beginOf finishOf recheckOf scanOf firstOf openRows grantRows beginRows finishRows recheckRows scanRows fresh total countIf some every member rising risingPast meets size admitted promoted conflict charge costly before alone scanWalk looks
+unfolding twelveLines runOf after openOf grantOf beginOf finishOf recheckOf scanOf firstOf openRows grantRows beginRows finishRows recheckRows scanRows fresh total countIf some every member rising risingPast meets size admitted promoted conflict charge costly before alone scanWalk looks
 line-8 r = (refl, refl)
 
 -- ---- requests at an empty queue
@@ -51,9 +51,6 @@ idle-admits s f h = record {
   fuel = omega (arith, s .fuel, h);
 }
 
-spare-one : {meters : List Meter} {who units : ℕ} → Spare meters who 2 units → Spare meters who 1 units
-spare-one s = record { tenant = s .tenant; places = omega (arith, s .places); serials = omega (arith, s .serials); fuel = s .fuel }
-
 no-lists : WellFormed [] []
 unfolding rising meets some
 no-lists = record { few-reads = omega arith; few-writes = omega arith; reads-rise = refl; writes-rise = refl; apart = refl }
@@ -66,70 +63,109 @@ one-write : (r : ℕ) → WellFormed [] (r ∷ [])
 unfolding rising risingPast meets member some
 one-write r = record { few-reads = omega arith; few-writes = omega arith; reads-rise = refl; writes-rise = refl; apart = refl }
 
-free-first : {meters : List Meter} {who : ℕ} {reads writes : List ℕ} → Admissible clause9 (idle meters) (asked (idle meters) who 0 reads writes) → word (begins (idle meters) who reads writes) ≡ wordOf Free
-unfolding admitted promoted some
-free-first a = rw (begin-admits a)
+-- what it then comes to: Free, and alone in the queue
+record Alone (meters : List Meter) (who : ℕ) (reads writes : List ℕ) (o : Outcome) : Type 0 where
+  answer : o .answer ≡ named (entry meters who 1 Free reads writes)
+  queue : o .table .queue ≡ entry meters who 1 Free reads writes ∷ []
 
-empty-lists : (meters : List Meter) (who : ℕ) → Spare meters who 1 2 → let o = begins (idle meters) who [] [] in (word o ≡ wordOf Free) × (o .burnt ≡ 2)
+free-first : {meters : List Meter} {who : ℕ} {reads writes : List ℕ} → Admissible clause9 (idle meters) (asked (idle meters) who 0 reads writes) → Alone meters who reads writes (begins (idle meters) who reads writes)
+unfolding admitted promoted some
+free-first a = record { answer = rw (begin-admits a); queue = rw (begin-admits a) }
+
+empty-lists : (meters : List Meter) (who : ℕ) → Spare meters who 1 2 → let e = entry meters who 1 Free [] [] in let o = begins (idle meters) who [] [] in (o .answer ≡ named e) × (o .table .queue ≡ e ∷ []) × (o .burnt ≡ 2)
 unfolding size
 empty-lists meters who s =
     let a = idle-admits s no-lists (omega arith) in
-    (free-first a, rw (begin-admits a))
+    let o = free-first a in
+    (o .answer, o .queue, rw (begin-admits a))
 
 -- ---- a reader of 5, and then another request
--- what a meter may have lost when one request has been admitted
-record Less (m next : Meter) : Type 0 where
-  fuel : m .fuel ≤ next .fuel + 4
-  serials : next .serials ≤ m .serials + 1
+-- b's meter once a's request has been admitted: as it was, or with one serial more and 4 units less, if the two are the same
+record Less (m next : Meter) (own : ℕ) : Type 0 where
+  fuel : next .fuel ≡ m .fuel - 4 * (own - 1)
+  serials : next .serials + 1 ≡ m .serials + own
   share : next .share ≡ m .share
 
-module _ {meters : List Meter} {a b : ℕ} (sa : Spare meters a 2 8) (sb : Spare meters b 2 8) where
+module _ {meters : List Meter} {a b : ℕ} (two : SpareTwo meters a b) where
+  abbrev sa : Spare meters a (own a b) (4 * own a b)
+  sa = two .first
+
+  abbrev sb : Spare meters b (own a b) (4 * own a b)
+  sb = two .second
+
+  at-least-one : 1 ≤ own a b
+  at-least-one = if-either (λ (n : ℕ). 1 ≤ n) (eqb a b) (omega arith) (omega arith)
+
+  -- the first request needs no more than its tenant has
+  first-spare : Spare meters a 1 4
+  first-spare = record {
+    tenant = sa .tenant;
+    places = omega (arith, sa .places, at-least-one);
+    serials = omega (arith, sa .serials, at-least-one);
+    fuel = omega (arith, sa .fuel, at-least-one);
+  }
+
   reader-admits : Admissible clause9 (idle meters) (asked (idle meters) a 0 (5 ∷ []) [])
   unfolding size
-  reader-admits = idle-admits (spare-one sa) (one-read 5) (omega arith)
+  reader-admits = idle-admits first-spare (one-read 5) (omega arith)
 
   -- the table with the reader in its queue
   abbrev held : Table
-  held = burn a 4 (joined (idle meters) (withMode (asked (idle meters) a 0 (5 ∷ []) []) Free))
+  held = burn a 4 (joined (idle meters) (entry meters a 1 Free (5 ∷ []) []))
 
-  first-table : begins (idle meters) a (5 ∷ []) [] .table ≡ held
+  first-table : reader meters a .table ≡ held
   unfolding size admitted promoted some
   first-table = rw (begin-admits reader-admits)
 
-  held-less : Less (meterOf (idle meters) b) (meterOf held b)
+  held-less : Less (meterOf (idle meters) b) (meterOf held b) (own a b)
   held-less =
       let m = meterOf (idle meters) a in
       let six = sa .tenant .sixteen in
       let six′ : Sixteen (withMeter (idle meters) a (numbered m)) = sixteen-with (idle meters) six a (numbered m) in
-      let own : meterOf (withMeter (idle meters) a (numbered m)) a ≡ numbered m = meter-own (idle meters) six a (sa .tenant .valid) (numbered m) in
+      let same : meterOf (withMeter (idle meters) a (numbered m)) a ≡ numbered m = meter-own (idle meters) six a (sa .tenant .valid) (numbered m) in
       let outer = meter-with (withMeter (idle meters) a (numbered m)) six′ a (sa .tenant .valid) (spent (numbered m) 4) b (sb .tenant .valid) in
       let inner = meter-with (idle meters) six a (sa .tenant .valid) (numbered m) b (sb .tenant .valid) in
-      rw (own, outer, inner)
-      (if-cases (λ (n : Meter). Less (meterOf (idle meters) b) n) (eqb a b)
-      (λ e. let same : b ≡ a = sym (eqb-true a b e) in rw same (record { fuel = omega arith; serials = omega arith; share = refl }))
-      (λ e. rw e (record { fuel = omega arith; serials = omega arith; share = refl })))
+      rw (same, outer, inner) (go (eqb a b) refl)
+    where
+      go : (t : Bool) → eqb a b ≡ t → Less (meterOf (idle meters) b) (if t then spent (numbered (meterOf (idle meters) a)) 4 else if t then numbered (meterOf (idle meters) a) else meterOf (idle meters) b) (if t then 2 else 1)
+      go true e = let k : b ≡ a = sym (eqb-true a b e) in rw k (record { fuel = omega arith; serials = omega arith; share = refl })
+      go false e = record { fuel = omega arith; serials = omega arith; share = refl }
 
-  second-admits : {reads writes : List ℕ} → WellFormed reads writes → admission clause9 (asked held b 0 reads writes) ≤ 4 → Admissible clause9 held (asked held b 0 reads writes)
-  second-admits f h =
+  -- of those ahead b holds no more than its own but this one
+  held-places : placesOf (held .queue) b + 1 ≡ own a b
+  unfolding countIf
+  held-places = if-cases (λ (n : ℕ). n + 0 + 1 ≡ own a b) (eqb a b) (λ e. rw e refl) (λ e. rw e refl)
+
+  second-admits : {reads writes : List ℕ} → WellFormed reads writes → admission clause9 (asked held b 0 reads writes) ≡ 4 → Admissible clause9 held (asked held b 0 reads writes)
+  second-admits f price =
       let l = held-less in
-      let p : placesOf (held .queue) b ≤ 1 = count-le (λ (e : Request). eqb (e .tenant) b) (held .queue) in
       record {
         tenant = sb .tenant .valid;
         lists = f;
         awaited = omega arith;
-        place = omega (arith, l .share, sb .places);
+        place = omega (arith, l .share, sb .places, held-places);
         serial = omega (arith, l .serials, sb .serials);
-        some-fuel = omega (arith, l .fuel, sb .fuel);
-        fuel = omega (arith, l .fuel, sb .fuel, h);
+        some-fuel = omega (arith, l .fuel, sb .fuel, at-least-one);
+        fuel = omega (arith, l .fuel, sb .fuel, at-least-one);
       }
 
-  two-readers : let second = secondOf meters a b (5 ∷ []) [] in (word (begins (idle meters) a (5 ∷ []) []) ≡ wordOf Free) × (word second ≡ wordOf Free) × (cs (second .table .queue) 5 ≡ 2)
-  unfolding size admitted promoted some conflict meets member countIf
-  two-readers = let a2 = second-admits (one-read 5) (omega arith) in (free-first reader-admits, rw (first-table, begin-admits a2), rw (first-table, begin-admits a2))
+  -- the second request, under its name
+  second-is : (mode : Mode) (reads writes : List ℕ) → withMode (asked held b 0 reads writes) mode ≡ entry meters b (own a b) mode reads writes
+  second-is mode reads writes = ap (λ (n : ℕ). withMode (requested b n 0 reads writes) mode) (held-less .serials)
 
-  then-writer : word (secondOf meters a b [] (5 ∷ [])) ≡ wordOf Blocked
+  two-readers : let first = entry meters a 1 Free (5 ∷ []) [] in let second = entry meters b (own a b) Free (5 ∷ []) [] in let o = readerThen meters a b (5 ∷ []) [] in (reader meters a .answer ≡ named first) × (o .answer ≡ named second) × (o .table .queue ≡ first ∷ second ∷ []) × (cs (o .table .queue) 5 ≡ 2)
+  unfolding size admitted promoted some conflict meets member countIf
+  two-readers =
+      let a2 = second-admits (one-read 5) refl in
+      let is = second-is Free (5 ∷ []) [] in
+      (free-first reader-admits .answer, rw (first-table, begin-admits a2) (ap named is), rw (first-table, begin-admits a2) (ap (λ (e : Request). entry meters a 1 Free (5 ∷ []) [] ∷ e ∷ []) is), rw (first-table, begin-admits a2))
+
+  then-writer : let first = entry meters a 1 Free (5 ∷ []) [] in let second = entry meters b (own a b) Blocked [] (5 ∷ []) in let o = readerThen meters a b [] (5 ∷ []) in (o .answer ≡ named second) × (o .table .queue ≡ first ∷ second ∷ [])
   unfolding size admitted promoted some conflict meets member
-  then-writer = rw (first-table, begin-admits (second-admits (one-write 5) (omega arith)))
+  then-writer =
+      let a2 = second-admits (one-write 5) refl in
+      let is = second-is Blocked [] (5 ∷ []) in
+      (rw (first-table, begin-admits a2) (ap named is), rw (first-table, begin-admits a2) (ap (λ (e : Request). entry meters a 1 Free (5 ∷ []) [] ∷ e ∷ []) is))
 
 -- ---- refusals, and the exact fuel
 wet : (units : ℕ) → 0 < units → eqb units 0 ≡ false
@@ -174,7 +210,7 @@ module _ (meters : List Meter) (who r : ℕ) (s : Spare meters who 1 0) where
 
   -- the table with the writer in its queue
   abbrev run : Table
-  run = burn who 4 (joined (idle meters) (withMode writer Free))
+  run = burn who 4 (joined (idle meters) (entry meters who 1 Free [] (r ∷ [])))
 
   four-table : meterOf (idle meters) who .fuel ≡ 4 → begins (idle meters) who [] (r ∷ []) .table ≡ run
   unfolding size admitted promoted some
@@ -192,8 +228,8 @@ module _ (meters : List Meter) (who r : ℕ) (s : Spare meters who 1 0) where
       let n = meterOf (idle meters) who .serials + 1 in
       simp (s .tenant .valid, eq-eqb who who refl, eq-eqb n n refl, and-false)
 
-  four : meterOf (idle meters) who .fuel ≡ 4 → let o = begins (idle meters) who [] (r ∷ []) in (word o ≡ wordOf Free) × (left o who ≡ 0) × (finishOf clause9 (o .table) who (meterOf (idle meters) who .serials + 1) .answer ≡ Done)
-  four f = (free-first (four-admits f), rw (four-table f, run-meter, f), rw (four-table f) finishes)
+  four : meterOf (idle meters) who .fuel ≡ 4 → let o = begins (idle meters) who [] (r ∷ []) in (o .answer ≡ named (entry meters who 1 Free [] (r ∷ []))) × (left o who ≡ 0) × (finishOf clause9 (o .table) who (meterOf (idle meters) who .serials + 1) .answer ≡ Done)
+  four f = (free-first (four-admits f) .answer, rw (four-table f, run-meter, f), rw (four-table f) finishes)
 
 -- ---- a search on fuel 1
 module _ (meters : List Meter) (who : ℕ) (v : Tenant meters who) (f : meterOf (idle meters) who .fuel ≡ 1) where
@@ -231,12 +267,12 @@ unfolding meets member some
 no-writes [] = refl
 no-writes (r ∷ reads) = no-writes reads
 
-module _ (meters : List Meter) (who : ℕ) (reads : List ℕ) (s : Spare meters who 1 18) (rise : rising reads ≡ true) where
-  eight : length reads ≡ 8 → word (begins (idle meters) who reads []) ≡ wordOf Free
+module _ (meters : List Meter) (who : ℕ) (reads : List ℕ) (s : Spare meters who 1 18) where
+  eight : length reads ≡ 8 → rising reads ≡ true → begins (idle meters) who reads [] .answer ≡ named (entry meters who 1 Free reads [])
   unfolding size rising
-  eight n =
+  eight n rise =
       let lists : WellFormed reads [] = record { few-reads = omega arith; few-writes = omega arith; reads-rise = rise; writes-rise = refl; apart = no-writes reads } in
-      free-first (idle-admits s lists (omega arith))
+      free-first (idle-admits s lists (omega arith)) .answer
 
   nine : length reads ≡ 9 → number (begins (idle meters) who reads []) ≡ 3
   unfolding beginOf beginRows firstOf
@@ -260,6 +296,6 @@ ten-examples = record {
   e6 = bad-lists;
   e7 = λ meters who r s. (three meters who r s, four meters who r s);
   e8 = λ meters who v f. (scans-empty meters who v f, scans-short meters who v f);
-  e9 = λ meters who reads s rise. (eight meters who reads s rise, nine meters who reads s rise);
+  e9 = λ meters who reads s. (eight meters who reads s, nine meters who reads s);
   e10 = opens;
 }

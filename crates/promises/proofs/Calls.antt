@@ -19,14 +19,15 @@ use Rattle.rules.specs.Refusals.{firstOf, standsAt, entryOf, beginRows, finishR
 use Rattle.rules.specs.Counters.{cx, cs, alone}
 use Rattle.rules.specs.Scan.{End, found, nothing, short}
 use Rattle.rules.specs.Calls.{Outcome, tenantCall, asked, joined, withoutEntry, withEntry, found-table, search, pickEnd, beginOf, finishOf, recheckOf, scanOf, openOf, grantOf, pickOf, deliverOf}
+use Rattle.rules.specs.Said.{said}
 use Rattle.rules.specs.Runs.{Call, step, callerOf, isOpen, isDryAnswer, burntBy, notDry}
 use Rattle.rules.specs.Runs.Call.{Begin, Finish, Recheck, Scan, Open, Grant, Pick, Deliver}
 use Rattle.rules.proofs.Tests.{both, and-false, one, if-either, if-cases}
 use Rattle.rules.proofs.Lists.{count-last, count-without, count-set}
 use Rattle.rules.proofs.Requests.{delivered-as}
 use Rattle.rules.proofs.Refusals.{pass}
-use Rattle.rules.proofs.Charges.{charge-unit}
-use Rattle.promises.specs.Promises.{Fair, reached, fuelOf, NotDry}
+use Rattle.rules.proofs.Costly.{costly-low, charge-unit}
+use Rattle.promises.specs.Fuel.{Fair, reached, fuelOf, NotDry}
 use Rattle.promises.proofs.Refusals.{Verdict, begin-verdict, finish-verdict, recheck-verdict, scan-verdict}
 use Rattle.promises.proofs.Runs.{any-run}
 use Rattle.promises.proofs.Fuel.{balance}
@@ -62,7 +63,7 @@ module _ {p : Prices} (f : Fair p) (t : Table) (who : ℕ) (h : isTenant who ≡
   -- a call counts if it is the tenant's own and not dry; the call and the places after it are paid by those before and by
   -- what it burns
   abbrev Paid : ℕ → Outcome → Type 0
-  Paid caller o = one (eqb caller who && not (isDryAnswer (o .answer))) + placesOf (o .table .queue) who ≤ placesOf (t .queue) who + (if eqb caller who then o .burnt else 0)
+  Paid caller o = one (eqb caller who && not (isDryAnswer o)) + placesOf (o .table .queue) who ≤ placesOf (t .queue) who + (if eqb caller who then o .burnt else 0)
 
   -- a number that is no tenant is not this tenant
   outsider : (caller : ℕ) → isTenant caller ≡ false → eqb caller who ≡ false
@@ -71,13 +72,13 @@ module _ {p : Prices} (f : Fair p) (t : Table) (who : ℕ) (h : isTenant who ≡
   module _ (caller price : ℕ) (deed : Table) (answer : Answer) where
     -- refused with 2 it does not count, and refused with a charged number it burns a unit
     tenant-paid : (z : ℕ) → Verdict caller (fuelOf t caller) z → (z ≡ 0 → one (eqb caller who) + placesOf (deed .queue) who ≤ placesOf (t .queue) who + (if eqb caller who then price else 0)) → Paid caller (tenantCall p t caller z price deed answer)
-    tenant-paid z Verdict.passes does = omega (arith, does refl, at-most (eqb caller who) (not (isDryAnswer answer)))
+    tenant-paid z Verdict.passes does = omega (arith, does refl, at-most (eqb caller who) (not (eqb (said answer .number) 2)))
     tenant-paid z (Verdict.stranger k) does = rw (outsider caller k) (omega arith)
     tenant-paid z Verdict.dry does = rw (and-false (eqb caller who)) (omega arith)
-    tenant-paid z (Verdict.costs {n = n} range fuelled) does =
-        let low : 3 ≤ n = leb-true 3 n (both (leb 3 n) (leb n 11) range .0) in
+    tenant-paid z (Verdict.costs {n = n} costs fuelled) does =
+        let low : 3 ≤ n = costly-low n costs in
         let refused : eqb n 0 ≡ false = ne-eqb n 0 (λ (e : n ≡ 0). omega arith) in
-        let units : 1 ≤ charge p (fuelOf t caller) n = omega (arith, charge-unit p (fuelOf t caller) n range, f .refused) in
+        let units : 1 ≤ charge p (fuelOf t caller) n = omega (arith, charge-unit p (fuelOf t caller) n costs, f .refused) in
         rw refused (omega (arith, at-most (eqb caller who) (not (eqb n 2)), own-units (eqb caller who) (charge p (fuelOf t caller) n) units))
 
   -- ---- the places
@@ -142,7 +143,7 @@ module _ {p : Prices} (f : Fair p) (t : Table) (who : ℕ) (h : isTenant who ≡
 
   -- any call but Open
   paid : (c : Call) → isOpen c ≡ false → Paid (callerOf c) (step p t c)
-  unfolding step callerOf beginOf finishOf recheckOf scanOf grantOf pickOf
+  unfolding beginOf finishOf recheckOf scanOf grantOf pickOf
   paid (Begin w awaited reads writes) shut =
       let e = asked t w awaited reads writes in
       tenant-paid w _ _ _ (firstOf (beginRows p t e)) (begin-verdict p t e) (λ z. begin-does e)

@@ -19,8 +19,8 @@ use Rattle.rules.specs.Counters.{cx, cs, alone}
 use Rattle.rules.specs.Scan.{End, found, nothing, short}
 use Rattle.rules.specs.Calls.{Outcome, tenantCall, hostCall, asked, joined, found-table, found-answer, search, pickEnd, beginOf, finishOf, recheckOf, scanOf, openOf, grantOf, pickOf, deliverOf}
 use Rattle.rules.specs.Said.{said}
-use Rattle.rules.specs.Sound.{SoundTable}
-use Rattle.rules.specs.Runs.{Call, step, callerOf, priceOf, isOpen, burntBy, pricesOf, grantedTo}
+use Rattle.rules.specs.Sound.{SoundAny}
+use Rattle.rules.specs.Runs.{Call, step, eventOf, number, callerOf, priceOf, isOpen, burntBy, pricesBy, grantedTo}
 use Rattle.rules.specs.Runs.Call.{Begin, Finish, Recheck, Scan, Open, Grant, Pick, Deliver}
 use Rattle.rules.proofs.Tests.{if-either, if-cases}
 use Rattle.rules.proofs.Meters.{Sixteen, tenant-range, meter-own, meter-other}
@@ -28,15 +28,14 @@ use Rattle.rules.proofs.Prices.{search-pays}
 use Rattle.rules.proofs.Refusals.{pass, stranger, free-of-charge, begin-passes, grant-passes}
 use Rattle.rules.proofs.Costly.{charge-fits}
 use Rattle.rules.proofs.Keeps.{burn-none}
-use Rattle.promises.specs.Bench.{number}
-use Rattle.promises.specs.Promises.{Fair, fuelOf, gift, BurnsPrice, BurnsPrices, OwnCall, OtherCall, Balance}
+use Rattle.promises.specs.Fuel.{Fair, fuelOf, gift, BurnsPrice, BurnsPrices, OwnCall, OtherCall, Balance}
 use Rattle.promises.proofs.Refusals.{positive, view-set}
 use Rattle.promises.proofs.Runs.{any-run}
 
 -- ---- 1 "the prices of its own calls"
 -- a call burns its price
 pub burns-price : (p : Prices) → BurnsPrice p
-unfolding step priceOf beginOf finishOf recheckOf scanOf openOf grantOf pickOf deliverOf
+unfolding priceOf beginOf finishOf recheckOf scanOf openOf grantOf pickOf deliverOf
 burns-price p t (Begin who awaited reads writes) = refl
 burns-price p t (Finish who serial) = refl
 burns-price p t (Recheck who serial) = refl
@@ -48,9 +47,9 @@ burns-price p t (Deliver who serial) = refl
 
 -- and so the tenant's calls of a run burn the sum of theirs
 pub burns-prices : (p : Prices) → BurnsPrices p
-unfolding burntBy pricesOf total
+unfolding burntBy pricesBy total
 burns-prices p shares calls who =
-    any-run p (λ t steps. burntBy who steps ≡ pricesOf p who steps) (λ shares. refl)
+    any-run p (λ t steps. burntBy who steps ≡ pricesBy p who steps) (λ shares. refl)
     (λ t steps c s shut so-far. rw (burns-price p t c, so-far))
     shares calls
 
@@ -66,7 +65,7 @@ open-dry shares who =
     if-either (λ (t : Table). fuelOf t who ≡ 0) (eqb (firstOf (openRows shares)) 0) (new-dry shares (who - 1)) (new-dry (replicate 16 0) (who - 1))
 
 -- ---- what a call does to one tenant's fuel
-same-if : (b : Bool) (n : ℕ) → (if b then n else n) ≡ n
+pub same-if : (b : Bool) (n : ℕ) → (if b then n else n) ≡ n
 same-if true n = refl
 same-if false n = refl
 
@@ -75,7 +74,7 @@ record Kept (t deed : Table) : Type 0 where
   sixteen : Sixteen deed
   fuel : (who : ℕ) → fuelOf deed who ≡ fuelOf t who
 
-module _ {t : Table} (s : SoundTable t) where
+module _ {t : Table} (s : SoundAny t) where
   queue-kept : (q : List Request) → Kept t (withQueue t q)
   queue-kept q = record { sixteen = s .sixteen; fuel = λ who. refl }
 
@@ -136,8 +135,8 @@ module _ {t : Table} (s : SoundTable t) where
             omega arith
 
     -- a tenant's call gives no fuel
-    tenant-moves : (who : ℕ) → isTenant who ≡ true → fuelOf t who + (if eqb (number outcome) 0 then 0 else 0) ≡ fuelOf (outcome .table) who + (if eqb caller who then outcome .burnt else 0)
-    tenant-moves who h = omega (arith, tenant-fuel who h, same-if (eqb (number outcome) 0) 0)
+    tenant-moves : (who given : ℕ) → isTenant who ≡ true → given ≡ 0 → fuelOf t who + given ≡ fuelOf (outcome .table) who + (if eqb caller who then outcome .burnt else 0)
+    tenant-moves who given h none = omega (arith, tenant-fuel who h)
 
 -- ---- any call
 -- a call's price is in the tank
@@ -162,16 +161,16 @@ search-fits {p} f t who z =
 abbrev Moves : Prices → Table → ℕ → Call → Type 0
 Moves p t who c = let o = step p t c in fuelOf t who + gift who c o ≡ fuelOf (o .table) who + (if eqb (callerOf c) who then o .burnt else 0)
 
-module _ {p : Prices} (f : Fair p) {t : Table} (s : SoundTable t) (who : ℕ) (h : isTenant who ≡ true) where
+module _ {p : Prices} (f : Fair p) {t : Table} (s : SoundAny t) (who : ℕ) (h : isTenant who ≡ true) where
   -- a host's call that gives no fuel
-  host-moves : (z : ℕ) {deed : Table} (answer : Answer) → Kept t deed → let o = hostCall t z deed answer in fuelOf t who + (if eqb (number o) 0 then 0 else 0) ≡ fuelOf (o .table) who + (if eqb 0 who then 0 else 0)
-  host-moves z {deed} answer kept =
+  host-moves : (z : ℕ) {deed : Table} (answer : Answer) (given : ℕ) → Kept t deed → given ≡ 0 → let o = hostCall t z deed answer in fuelOf t who + given ≡ fuelOf (o .table) who + (if eqb 0 who then 0 else 0)
+  host-moves z {deed} answer given kept none =
       let start : Kept t (if eqb z 0 then deed else t) = if-either (Kept t) (eqb z 0) kept (queue-kept s (t .queue)) in
-      omega (arith, start .fuel who, same-if (eqb 0 who) 0, same-if (eqb (number (hostCall t z deed answer)) 0) 0)
+      omega (arith, start .fuel who, same-if (eqb 0 who) 0)
 
   -- a Grant gives its amount to the tenant that it names
   grant-moves : (w amount : ℕ) → Moves p t who (Grant w amount)
-  unfolding step callerOf grantOf
+  unfolding grantOf
   grant-moves w amount = go (eqb z 0) refl
     where
       z : ℕ
@@ -195,46 +194,52 @@ module _ {p : Prices} (f : Fair p) {t : Table} (s : SoundTable t) (who : ℕ) (h
           omega (arith, added (passes .0) (eqb w who) refl, same-if (eqb 0 who) 0)
       go false e = rw (e, same-if (eqb 0 who) 0)
 
+  -- what a call without an amount gives
+  none-given : (c : Call) → eventOf c .amount ≡ 0 → gift who c (step p t c) ≡ 0
+  none-given c none = rw (none, same-if (eqb (eventOf c .tenant) who) 0) (same-if (eqb (number (step p t c)) 0) 0)
+
+  -- any call but Open; the fuel does not depend on what it answers
   moves : (c : Call) → isOpen c ≡ false → Moves p t who c
-  unfolding step callerOf beginOf finishOf recheckOf scanOf pickOf deliverOf beginRows finishRows recheckRows scanRows
+  unfolding beginOf finishOf recheckOf scanOf pickOf deliverOf beginRows finishRows recheckRows scanRows
   moves (Begin w awaited reads writes) shut =
       let e = asked t w awaited reads writes in
-      tenant-moves s p w (firstOf (beginRows p t e)) (admission p e) _ (joined-kept s (admitted (t .queue) e)) (stranger w _) (λ z. begin-passes p t e z .fuel) who h
+      tenant-moves s p w (firstOf (beginRows p t e)) (admission p e) Ok (joined-kept s (admitted (t .queue) e)) (stranger w _) (λ z. begin-passes p t e z .fuel) who _ h (none-given (Begin w awaited reads writes) refl)
   moves (Finish w serial) shut =
-      tenant-moves s p w (firstOf (finishRows t w serial)) (p .finish) _ (queue-kept s _) (stranger w _) (λ z. omega (arith, f .finish)) who h
+      tenant-moves s p w (firstOf (finishRows t w serial)) (p .finish) Ok (queue-kept s _) (stranger w _) (λ z. omega (arith, f .finish)) who _ h (none-given (Finish w serial) refl)
   moves (Recheck w serial) shut =
       let e = entryOf w serial (t .queue) in
-      tenant-moves s p w (firstOf (recheckRows p t w serial)) (p .recheck (size e)) _ (if-either (Kept t) (alone (cx (t .queue)) (cs (t .queue)) e) (queue-kept s _) (queue-kept s _)) (stranger w _) (recheck-fits p t w serial) who h
+      tenant-moves s p w (firstOf (recheckRows p t w serial)) (p .recheck (size e)) Ok (if-either (Kept t) (alone (cx (t .queue)) (cs (t .queue)) e) (queue-kept s _) (queue-kept s _)) (stranger w _) (recheck-fits p t w serial) who _ h (none-given (Recheck w serial) refl)
   moves (Scan w) shut =
-      tenant-moves s p w (firstOf (scanRows t w)) (searching p (search p t w .looked)) _ (found-kept s (search p t w .end)) (stranger w _) (search-fits f t w) who h
+      tenant-moves s p w (firstOf (scanRows t w)) (searching p (search p t w .looked)) Ok (found-kept s (search p t w .end)) (stranger w _) (search-fits f t w) who _ h (none-given (Scan w) refl)
   moves (Open shares) shut = absurd (true≢false shut)
   moves (Grant w amount) shut = grant-moves w amount
-  moves Pick shut = host-moves 0 (found-answer (t .queue) (pickEnd (t .queue))) (found-kept s (pickEnd (t .queue)))
-  moves (Deliver w serial) shut = host-moves (firstOf (deliverRows t w serial)) _ (queue-kept s _)
+  moves Pick shut =
+      host-moves 0 Ok _ (found-kept s (pickEnd (t .queue))) (none-given Pick refl)
+  moves (Deliver w serial) shut = host-moves (firstOf (deliverRows t w serial)) Ok _ (queue-kept s _) (none-given (Deliver w serial) refl)
 
--- a host's call is no tenant's own, and a tenant's call gives no fuel
+-- a host's call is no tenant's own
 no-host : (who : ℕ) → isTenant who ≡ true → eqb 0 who ≡ true → ⊥
 no-host who h e = let r = tenant-range who h in omega (arith, r .0, eqb-true 0 who e)
 
-own-gift : (c : Call) (o : Outcome) (who : ℕ) → isTenant who ≡ true → eqb (callerOf c) who ≡ true → (isOpen c ≡ false) × (gift who c o ≡ 0)
-unfolding callerOf
-own-gift (Begin w awaited reads writes) o who h e = (refl, same-if (eqb (number o) 0) 0)
-own-gift (Finish w serial) o who h e = (refl, same-if (eqb (number o) 0) 0)
-own-gift (Recheck w serial) o who h e = (refl, same-if (eqb (number o) 0) 0)
-own-gift (Scan w) o who h e = (refl, same-if (eqb (number o) 0) 0)
-own-gift (Open shares) o who h e = absurd (no-host who h e)
-own-gift (Grant w amount) o who h e = absurd (no-host who h e)
-own-gift Pick o who h e = absurd (no-host who h e)
-own-gift (Deliver w serial) o who h e = absurd (no-host who h e)
+-- a call that is a tenant's own is no opening, and has no amount
+own-call-is : (c : Call) (who : ℕ) → isTenant who ≡ true → eqb (callerOf c) who ≡ true → (isOpen c ≡ false) × (eventOf c .amount ≡ 0)
+own-call-is (Begin w awaited reads writes) who h e = (refl, refl)
+own-call-is (Finish w serial) who h e = (refl, refl)
+own-call-is (Recheck w serial) who h e = (refl, refl)
+own-call-is (Scan w) who h e = (refl, refl)
+own-call-is (Open shares) who h e = absurd (no-host who h e)
+own-call-is (Grant w amount) who h e = absurd (no-host who h e)
+own-call-is Pick who h e = absurd (no-host who h e)
+own-call-is (Deliver w serial) who h e = absurd (no-host who h e)
 
 module _ {p : Prices} (f : Fair p) where
   -- 1 the tenant's own call lowers its fuel by what it burns
   pub own-call : OwnCall p
   own-call t c who s h e =
-      let none = own-gift c (step p t c) who h e in
-      let all : Moves p t who c = moves f s who h c (none .0) in
+      let is = own-call-is c who h e in
+      let all : Moves p t who c = moves f s who h c (is .0) in
       let burns : (if eqb (callerOf c) who then step p t c .burnt else 0) ≡ step p t c .burnt = rw e in
-      omega (arith, none .1)
+      omega (arith, none-given f s who h c (is .1))
 
   -- "and no other call changes it but Grant"
   pub other-call : OtherCall p

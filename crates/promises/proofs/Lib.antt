@@ -5,4 +5,7 @@ pub mod Fuel
 pub mod Calls
 pub mod Search
 pub mod Admitted
+pub mod Numbers
+pub mod Changes
+pub mod Names
 pub mod Promises

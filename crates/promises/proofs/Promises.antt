@@ -1,15 +1,20 @@
 -- Every promise of demand 3, over any fair price list and at document 01's.
 use mathlib.Core.Path.{refl}
 use native.Mathlib.Omega.{arith}
+use Rattle.rules.specs.Request.{size}
 use Rattle.rules.specs.Prices.{Prices, clause9, looks}
 use Rattle.rules.specs.Calls.{search}
-use Rattle.promises.specs.Promises.{Fair, Promises, AtClause9, SearchPrice9, SearchMost9}
+use Rattle.promises.specs.Fuel.{Fair}
+use Rattle.promises.specs.Searches.{SearchPrice9, SearchMost9}
+use Rattle.promises.specs.Promises.{Promises, AtClause9}
 use Rattle.promises.proofs.Refusals.{refuses, refuses9, refuses-open}
 use Rattle.promises.proofs.Runs.{all-sound}
 use Rattle.promises.proofs.Fuel.{burns-price, burns-prices, own-call, other-call, balance}
 use Rattle.promises.proofs.Calls.{not-dry}
 use Rattle.promises.proofs.Search.{search-price, search-most, search-promotes, search-ends, search-nothing, search-names, search-cut}
 use Rattle.promises.proofs.Admitted.{admits, finishes, picks}
+use Rattle.promises.proofs.Numbers.{prices9}
+use Rattle.promises.proofs.Names.{own-names, two-names, never-back}
 
 pub promises : {p : Prices} → Fair p → Promises p
 promises {p} f = record {
@@ -32,6 +37,9 @@ promises {p} f = record {
   search-cut = search-cut p;
   picks = picks;
   all-sound = all-sound p;
+  own-names = own-names p;
+  two-names = two-names p;
+  never-back = never-back p;
 }
 
 pub clause9-fair : Fair clause9
@@ -45,11 +53,11 @@ clause9-fair = record {
 
 -- 3 at document 01's prices
 pub search-price9 : SearchPrice9
-unfolding looks
+unfolding looks size
 search-price9 = search-price clause9
 
 pub search-most9 : SearchMost9
 search-most9 t who s = omega (arith, search-most clause9 t who 17 s (λ n small. omega arith))
 
 pub at-clause9 : AtClause9
-at-clause9 = record { all = promises clause9-fair; search-price = search-price9; search-most = search-most9; refuses = refuses9 }
+at-clause9 = record { all = promises clause9-fair; prices = prices9; search-price = search-price9; search-most = search-most9; refuses = refuses9 }

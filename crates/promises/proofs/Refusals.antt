@@ -1,5 +1,5 @@
 -- Promise 6: a refused call changes nothing but fuel, and burns the table's charge. The rows of a tenant's call let it pass,
--- or give 1 to a stranger, 2 to a dry tank, and otherwise a number from 3 to 11, which is charged, where there is fuel.
+-- or give 1 to a stranger, 2 to a dry tank, and otherwise a number that is charged, where there is fuel.
 use Prim.Native.Nat.{ℕ, zero, suc, _-_, _<_, min}
 use mathlib.Core.Path.{_≡_, refl, subst, _∙_}
 use mathlib.Core.Bool.{Bool, true, false, _&&_, _||_, not, true≢false}
@@ -10,38 +10,38 @@ use lib.ListN.{length, getD, set, replicate}
 use borrow.Author.Tests.{leb-true, eqb-false, not-true, not-false}
 use Rattle.rules.specs.declared.Answer.{Answer}
 use Rattle.rules.specs.declared.Answer.the-variants.{Ok, Still, Refused}
-use Rattle.rules.specs.Lists.{if_then_else_, every, total}
+use Rattle.rules.specs.Lists.{if_then_else_, some, every, total}
+use Rattle.rules.specs.Records.{member}
 use Rattle.rules.specs.Request.{Request, isFree, isBlocked, promoted}
 use Rattle.rules.specs.Table.{Meter, Table, isTenant, noMeter, meterOf, spent, burn, fresh}
-use Rattle.rules.specs.Prices.{Prices, clause9, searching, charge}
+use Rattle.rules.specs.Prices.{Prices, clause9, searching, costly, charge}
 use Rattle.rules.specs.Refusals.{Row, _gives_, firstOf, isDry, isAbsent, entryOf, beginRows, finishRows, recheckRows, scanRows, deliverRows, grantRows, openRows}
 use Rattle.rules.specs.Counters.{cx, cs, alone}
 use Rattle.rules.specs.Scan.{End, found, nothing, short}
 use Rattle.rules.specs.Calls.{Outcome, tenantCall, hostCall, named, asked, found-table, found-answer, search, pickEnd, beginOf, finishOf, recheckOf, scanOf, openOf, grantOf, pickOf, deliverOf}
 use Rattle.rules.specs.Said.{said}
-use Rattle.rules.specs.Runs.{Call, step, callerOf, isOpen}
+use Rattle.rules.specs.Runs.{Call, step, number, callerOf, isOpen}
 use Rattle.rules.specs.Runs.Call.{Begin, Finish, Recheck, Scan, Open, Grant, Pick, Deliver}
 use Rattle.rules.proofs.Tests.{both, if-either, if-cases}
 use Rattle.rules.proofs.Keeps.{burn-none}
-use Rattle.rules.proofs.Costly.{charge-low, charge-one}
-use Rattle.rules.proofs.Charges.{charge-unit}
-use Rattle.promises.specs.Bench.{number}
-use Rattle.promises.specs.Promises.{fuelOf, isCharged, column, tableCharge, SameButFuel, Refusal, Refuses, Refuses9, RefusesOpen}
+use Rattle.rules.proofs.Costly.{charge-low, charge-unit, charge-one}
+use Rattle.promises.specs.Fuel.{fuelOf, column}
+use Rattle.promises.specs.Refused.{SameButFuel, Refusal, Refuses, Refuses9, RefusedOpen, RefusesOpen}
 
 -- ---- what the rows of a tenant's call give
 pub data Verdict (who fuel : ℕ) : ℕ → Type 0 where
   passes : Verdict who fuel 0
   stranger : isTenant who ≡ false → Verdict who fuel 1
   dry : Verdict who fuel 2
-  costs : {n : ℕ} → isCharged n ≡ true → 0 < fuel → Verdict who fuel n
+  costs : {n : ℕ} → member n costly ≡ true → 0 < fuel → Verdict who fuel n
 
 module _ {who fuel : ℕ} where
   -- rows that all have charged numbers
-  charged-rows : (rows : List Row) → every (λ row. isCharged (row .number)) rows ≡ true → 0 < fuel → Verdict who fuel (firstOf rows)
+  charged-rows : (rows : List Row) → every (λ row. member (row .number) costly) rows ≡ true → 0 < fuel → Verdict who fuel (firstOf rows)
   unfolding firstOf every
   charged-rows [] all h = Verdict.passes
   charged-rows (row ∷ rows) all h =
-      let split = both (isCharged (row .number)) (every (λ (row : Row). isCharged (row .number)) rows) all in
+      let split = both (member (row .number) costly) (every (λ (row : Row). member (row .number) costly) rows) all in
       if-cases (Verdict who fuel) (row .when) (λ e. Verdict.costs (split .0) h) (λ e. charged-rows rows (split .1) h)
 
 pub positive : (n : ℕ) → eqb n 0 ≡ false → 0 < n
@@ -49,7 +49,7 @@ positive n h = omega (arith, eqb-false n 0 h)
 
 module _ (t : Table) (who : ℕ) where
   -- Begin, Recheck and Scan: 1, 2, and then charged numbers
-  tenant-rows : (rows : List Row) → every (λ row. isCharged (row .number)) rows ≡ true → Verdict who (fuelOf t who) (firstOf (not (isTenant who) gives 1 ∷ isDry t who gives 2 ∷ rows))
+  tenant-rows : (rows : List Row) → every (λ row. member (row .number) costly) rows ≡ true → Verdict who (fuelOf t who) (firstOf (not (isTenant who) gives 1 ∷ isDry t who gives 2 ∷ rows))
   unfolding firstOf
   tenant-rows rows all =
       if-cases (Verdict who (fuelOf t who)) (not (isTenant who)) (λ s. Verdict.stranger (not-true (isTenant who) s))
@@ -63,7 +63,7 @@ module _ (t : Table) (who : ℕ) where
   dry-finish false false = Verdict.dry
 
   pub finish-verdict : (serial : ℕ) → Verdict who (fuelOf t who) (firstOf (finishRows t who serial))
-  unfolding firstOf finishRows every
+  unfolding firstOf finishRows every member some costly
   finish-verdict serial =
       if-cases (Verdict who (fuelOf t who)) (not (isTenant who)) (λ s. Verdict.stranger (not-true (isTenant who) s)) (λ s. go (isDry t who) refl)
     where
@@ -78,7 +78,7 @@ module _ (t : Table) (who : ℕ) where
       go false d = charged-rows (absent gives 10 ∷ not free gives 11 ∷ []) refl (positive (fuelOf t who) d)
 
   pub recheck-verdict : (p : Prices) (serial : ℕ) → Verdict who (fuelOf t who) (firstOf (recheckRows p t who serial))
-  unfolding recheckRows every
+  unfolding recheckRows every member some costly
   recheck-verdict p serial = tenant-rows _ refl
 
   pub scan-verdict : Verdict who (fuelOf t who) (firstOf (scanRows t who))
@@ -86,7 +86,7 @@ module _ (t : Table) (who : ℕ) where
   scan-verdict = tenant-rows [] refl
 
 pub begin-verdict : (p : Prices) (t : Table) (e : Request) → Verdict (e .tenant) (fuelOf t (e .tenant)) (firstOf (beginRows p t e))
-unfolding beginRows every
+unfolding beginRows every member some costly
 begin-verdict p t e = tenant-rows t (e .tenant) _ refl
 
 -- Scan: "1, 2, then it walks"
@@ -128,11 +128,12 @@ by-rows z answer none =
 
 -- what a charged refusal burns of the caller's fuel
 abbrev Charge : Prices → Table → ℕ → ℕ → Type 0
-Charge p t who unit = (n : ℕ) → isCharged n ≡ true → 0 < fuelOf t who → charge p (fuelOf t who) n ≡ unit
+Charge p t who unit = (n : ℕ) → member n costly ≡ true → 0 < fuelOf t who → charge p (fuelOf t who) n ≡ unit
 
 module _ (p : Prices) (t : Table) (who unit : ℕ) (is : Charge p t who unit) where
   -- the law book's charge is the column's
   charge-column : {n : ℕ} → Verdict who (fuelOf t who) n → eqb n 0 ≡ false → charge p (fuelOf t who) n ≡ column unit n
+  unfolding member some costly
   charge-column Verdict.passes z = absurd (true≢false z)
   charge-column (Verdict.stranger h) z = charge-low p (fuelOf t who) 1 (omega arith)
   charge-column Verdict.dry z = charge-low p (fuelOf t who) 2 (omega arith)
@@ -160,14 +161,13 @@ recheck-number false e = refl
 
 -- a search that its rows let pass is refused only where it is cut short
 short-only : (p : Prices) (t : Table) (who unit : ℕ) (looked : List Request) (end : End) → let o = tenantCall p t who 0 (searching p looked) (found-table t end) (found-answer (t .queue) end) in eqb (number o) 0 ≡ false → Refusal unit (searching p looked) t (Scan who) o
-unfolding tableCharge
 short-only p t who unit looked (found at) h = absurd (true≢false h)
 short-only p t who unit looked nothing h = absurd (true≢false h)
 short-only p t who unit looked short h = record { same = burn-same who (searching p looked) t; burnt = refl }
 
 -- Scan: its rows refuse it, or it is cut short
 refused-search : (p : Prices) (t : Table) (who unit : ℕ) → Charge p t who unit → eqb (number (scanOf p t who)) 0 ≡ false → Refusal unit (searching p (search p t who .looked)) t (Scan who) (scanOf p t who)
-unfolding scanOf tableCharge
+unfolding scanOf member some costly
 refused-search p t who unit is =
     let w = search p t who in
     let outcome : ℕ → Outcome = λ z. tenantCall p t who z (searching p (w .looked)) (found-table t (w .end)) (found-answer (t .queue) (w .end)) in
@@ -179,7 +179,7 @@ refused-search p t who unit is =
 
 -- any call but Open
 refused-call : (p : Prices) (t : Table) (c : Call) (unit : ℕ) → Charge p t (callerOf c) unit → isOpen c ≡ false → eqb (number (step p t c)) 0 ≡ false → Refusal unit (searching p (search p t (callerOf c) .looked)) t c (step p t c)
-unfolding step callerOf tableCharge beginOf finishOf recheckOf grantOf pickOf deliverOf
+unfolding beginOf finishOf recheckOf grantOf pickOf deliverOf
 refused-call p t (Begin who awaited reads writes) unit is shut h =
     let e = asked t who awaited reads writes in
     let r = tenant-refused p t who unit is (firstOf (beginRows p t e)) _ _ _ (begin-verdict p t e) refl h in
@@ -206,13 +206,13 @@ pub refuses : (p : Prices) → Refuses p
 refuses p t c = refused-call p t c (min (p .refused) (fuelOf t (callerOf c))) (λ n range fuelled. charge-unit p (fuelOf t (callerOf c)) n range)
 
 pub refuses9 : Refuses9
-refuses9 t c = refused-call clause9 t c 1 (λ n range fuelled. let r = both (leb 3 n) (leb n 11) range in charge-one (fuelOf t (callerOf c)) n (leb-true 3 n (r .0)) (leb-true n 11 (r .1)) fuelled)
+refuses9 t c = refused-call clause9 t c 1 (charge-one (fuelOf t (callerOf c)))
 
 -- Open's refusal is 14, and hands out every share 0
 pub refuses-open : RefusesOpen
 unfolding openOf openRows firstOf
 refuses-open shares = go (not (eqb (length shares) 16) || ltb 64 (total (λ n. n) shares))
   where
-    go : (b : Bool) → let o = hostCall (fresh (replicate 16 0)) (if b then 14 else 0) (fresh shares) Ok in eqb (number o) 0 ≡ false → (number o ≡ 14) × (o .table ≡ fresh (replicate 16 0)) × (o .burnt ≡ 0)
-    go true h = (refl, refl, refl)
+    go : (b : Bool) → let o = hostCall (fresh (replicate 16 0)) (if b then 14 else 0) (fresh shares) Ok in eqb (number o) 0 ≡ false → RefusedOpen o
+    go true h = record { refused = refl; table = refl; burnt = refl }
     go false h = absurd (true≢false h)

@@ -26,7 +26,8 @@ use Rattle.rules.proofs.Costly.{charge-low}
 use Rattle.rules.proofs.Order.{each-map, each-take}
 use Rattle.rules.proofs.Room.{sound-count}
 use Rattle.rules.proofs.Walks.{walk-stops}
-use Rattle.promises.specs.Promises.{Fair, fuelOf, FirstReady, NoneReady, Promoting, CutShort, SearchPrice, SearchMost, SearchPromotes, SearchEnds, SearchNothing, SearchNames, SearchCut}
+use Rattle.promises.specs.Fuel.{Fair, fuelOf}
+use Rattle.promises.specs.Searches.{FirstReady, NoneReady, Promoting, LookedAtAll, CutShort, SearchPrice, SearchMost, SearchPromotes, SearchEnds, SearchNothing, SearchNames, SearchCut}
 use Rattle.promises.proofs.Refusals.{scan-cases}
 
 -- what cannot be
@@ -168,9 +169,12 @@ module _ (p : Prices) (t : Table) (who : ℕ) where
   }
 
   -- ---- by its answer
-  nothing-found : (end : End) → walk .end ≡ end → found-answer (t .queue) end ≡ Nothing → NoneReady who (t .queue) × (comes 0 .burnt ≡ searching p (t .queue))
+  nothing-found : (end : End) → walk .end ≡ end → found-answer (t .queue) end ≡ Nothing → LookedAtAll p who t (comes 0)
   nothing-found (found at) e a = never (cc)
-  nothing-found nothing e a = (λ i lt. walk-past p who rest [] (t .queue) i lt (rw e tt), ap (searching p) (looked-as nothing e))
+  nothing-found nothing e a = record {
+    none = λ i lt. walk-past p who rest [] (t .queue) i lt (rw e tt);
+    burnt = ap (searching p) (looked-as nothing e);
+  }
   nothing-found short e a = never (cc)
 
   named-found : (mode : Mode) (tenant serial : ℕ) (end : End) → walk .end ≡ end → found-answer (t .queue) end ≡ Named mode tenant serial → (at : ℕ) × Promoting p who t at (comes 0)
@@ -221,7 +225,7 @@ module _ (p : Prices) where
   pub search-nothing : SearchNothing p
   unfolding scanOf
   search-nothing t who =
-      scan-cases t who (λ z. let o = comes p t who z in o .answer ≡ Nothing → NoneReady who (t .queue) × (o .burnt ≡ searching p (t .queue)))
+      scan-cases t who (λ z. let o = comes p t who z in o .answer ≡ Nothing → LookedAtAll p who t o)
       (λ (a : Refused 1 ≡ Nothing). never (cc))
       (λ (a : Refused 2 ≡ Nothing). never (cc))
       (λ tenant fuelled. nothing-found p t who (search p t who .end) refl)

@@ -1,20 +1,21 @@
 -- The ten bench examples of document 01, as one statement.
-use Prim.Native.Nat.{ℕ, _+_, _≤_}
+use Prim.Native.Nat.{ℕ, _+_, _*_, _≤_}
 use mathlib.Core.Path.{_≡_}
 use mathlib.Core.Bool.{true}
 use mathlib.Core.List.{List, [], _∷_}
+use lib.Dec.{eqb}
 use lib.ListN.{length, take}
+use Rattle.rules.specs.declared.Mode.{Mode}
 use Rattle.rules.specs.declared.Mode.the-variants.{Free, Blocked}
 use Rattle.rules.specs.declared.Answer.the-variants.{Ok, Done, Nothing}
-use Rattle.rules.specs.Lists.{total}
+use Rattle.rules.specs.Lists.{if_then_else_, total}
 use Rattle.rules.specs.Records.{rising}
-use Rattle.rules.specs.Request.{Request}
+use Rattle.rules.specs.Request.{Request, requested, withMode}
 use Rattle.rules.specs.Table.{Meter, Table, isTenant, meterOf}
 use Rattle.rules.specs.Prices.{clause9}
 use Rattle.rules.specs.Counters.{cx, cs}
-use Rattle.rules.specs.Calls.{Outcome, beginOf, finishOf, scanOf, openOf}
-use Rattle.rules.specs.Said.{said, wordOf}
-use Rattle.rules.specs.Runs.{Call, Run, runOf, step}
+use Rattle.rules.specs.Calls.{Outcome, named, beginOf, finishOf, scanOf, openOf}
+use Rattle.rules.specs.Runs.{Call, Run, runOf, step, number}
 use Rattle.rules.specs.Runs.Call.{Begin, Finish, Recheck, Scan, Open, Grant, Pick}
 
 -- ---- the twelve lines
@@ -56,41 +57,99 @@ pub record Spare (meters : List Meter) (who requests units : ℕ) : Type 0 where
   pub serials : meterOf (idle meters) who .serials + requests ≤ 65535
   pub fuel : units ≤ meterOf (idle meters) who .fuel
 
--- what an outcome says, and the tenant's fuel after it
-abbrev pub word : Outcome → List ℕ
-word o = said (o .answer) .word
+-- of two requests, one of tenant a and one of tenant b, those that are a tenant's own: both, if the two are the same
+abbrev pub own : ℕ → ℕ → ℕ
+own a b = if eqb a b then 2 else 1
 
-abbrev pub number : Outcome → ℕ
-number o = said (o .answer) .number
+-- each has what its own of two requests of 4 units need
+pub record SpareTwo (meters : List Meter) (a b : ℕ) : Type 0 where
+  pub first : Spare meters a (own a b) (4 * own a b)
+  pub second : Spare meters b (own a b) (4 * own a b)
 
+-- an entry that awaits no answers, under a name that is so many serials on
+abbrev pub entry : List Meter → ℕ → ℕ → Mode → List ℕ → List ℕ → Request
+entry meters who on mode reads writes = withMode (requested who (meterOf (idle meters) who .serials + on) 0 reads writes) mode
+
+-- the tenant's fuel after a call
 abbrev pub left : Outcome → ℕ → ℕ
 left o who = meterOf (o .table) who .fuel
 
 abbrev pub begins : Table → ℕ → List ℕ → List ℕ → Outcome
 begins t who reads writes = beginOf clause9 t who 0 reads writes
 
+abbrev pub scans : List Meter → List Request → ℕ → Outcome
+scans meters q who = scanOf clause9 (record { meters = meters; queue = q }) who
+
 -- a reader of 5 and then a request of a tenant, who may be the same
-abbrev pub secondOf : List Meter → ℕ → ℕ → List ℕ → List ℕ → Outcome
-secondOf meters a b reads writes = begins (begins (idle meters) a (5 ∷ []) [] .table) b reads writes
+abbrev pub reader : List Meter → ℕ → Outcome
+reader meters a = begins (idle meters) a (5 ∷ []) []
+
+abbrev pub readerThen : List Meter → ℕ → ℕ → List ℕ → List ℕ → Outcome
+readerThen meters a b reads writes = begins (reader meters a .table) b reads writes
 
 pub record TenExamples : Type 0 where
   -- E1 After line 7, Cx of 10, 11, 12 is 2, 1, 2.
-  pub e1 : (r : Run) → let q = afterLine 7 r .queue in (cx q 10 ≡ 2) × (cx q 11 ≡ 1) × (cx q 12 ≡ 2)
+  pub e1 : (r : Run) →
+      let q = afterLine 7 r .queue in
+      (cx q 10 ≡ 2) × (cx q 11 ≡ 1) × (cx q 12 ≡ 2)
   -- E2 After line 8, Cx of 10 is 1; line 10 costs 1 + 2 + 3.
-  pub e2 : (r : Run) → (cx (afterLine 8 r .queue) 10 ≡ 1) × (step clause9 (afterLine 9 r) (Scan 2) .burnt ≡ 1 + 2 + 3)
+  pub e2 : (r : Run) →
+      (cx (afterLine 8 r .queue) 10 ≡ 1) ×
+      (step clause9 (afterLine 9 r) (Scan 2) .burnt ≡ 1 + 2 + 3)
   -- E3 Two readers of 5: both Free, Cs 2.
-  pub e3 : (meters : List Meter) (a b : ℕ) → Spare meters a 2 8 → Spare meters b 2 8 → let second = secondOf meters a b (5 ∷ []) [] in (word (begins (idle meters) a (5 ∷ []) []) ≡ wordOf Free) × (word second ≡ wordOf Free) × (cs (second .table .queue) 5 ≡ 2)
+  pub e3 : (meters : List Meter) (a b : ℕ) →
+      SpareTwo meters a b →
+      let first = entry meters a 1 Free (5 ∷ []) [] in
+      let second = entry meters b (own a b) Free (5 ∷ []) [] in
+      let o = readerThen meters a b (5 ∷ []) [] in
+      (reader meters a .answer ≡ named first) ×
+      (o .answer ≡ named second) ×
+      (o .table .queue ≡ first ∷ second ∷ []) ×
+      (cs (o .table .queue) 5 ≡ 2)
   -- E4 A reader of 5, then a writer of 5: the second is Blocked.
-  pub e4 : (meters : List Meter) (a b : ℕ) → Spare meters a 2 8 → Spare meters b 2 8 → word (secondOf meters a b [] (5 ∷ [])) ≡ wordOf Blocked
+  pub e4 : (meters : List Meter) (a b : ℕ) →
+      SpareTwo meters a b →
+      let first = entry meters a 1 Free (5 ∷ []) [] in
+      let second = entry meters b (own a b) Blocked [] (5 ∷ []) in
+      let o = readerThen meters a b [] (5 ∷ []) in
+      (o .answer ≡ named second) ×
+      (o .table .queue ≡ first ∷ second ∷ [])
   -- E5 Both lists empty: Free, price 2.
-  pub e5 : (meters : List Meter) (who : ℕ) → Spare meters who 1 2 → let o = begins (idle meters) who [] [] in (word o ≡ wordOf Free) × (o .burnt ≡ 2)
+  pub e5 : (meters : List Meter) (who : ℕ) →
+      Spare meters who 1 2 →
+      let e = entry meters who 1 Free [] [] in
+      let o = begins (idle meters) who [] [] in
+      (o .answer ≡ named e) ×
+      (o .table .queue ≡ e ∷ []) ×
+      (o .burnt ≡ 2)
   -- E6 Writes 7, 7: refusal 4. Reads 7 and writes 7: refusal 5.
-  pub e6 : (meters : List Meter) (who : ℕ) → Spare meters who 1 1 → (number (begins (idle meters) who [] (7 ∷ 7 ∷ [])) ≡ 4) × (number (begins (idle meters) who (7 ∷ []) (7 ∷ [])) ≡ 5)
+  pub e6 : (meters : List Meter) (who : ℕ) →
+      Spare meters who 1 1 →
+      (number (begins (idle meters) who [] (7 ∷ 7 ∷ [])) ≡ 4) ×
+      (number (begins (idle meters) who (7 ∷ []) (7 ∷ [])) ≡ 5)
   -- E7 Fuel 3, one write: refusal 9, fuel 2. Fuel 4: admitted, fuel 0, and Finish succeeds.
-  pub e7 : (meters : List Meter) (who record-number : ℕ) → Spare meters who 1 0 → let fuel = meterOf (idle meters) who .fuel in let o = begins (idle meters) who [] (record-number ∷ []) in (fuel ≡ 3 → (number o ≡ 9) × (left o who ≡ 2)) × (fuel ≡ 4 → (word o ≡ wordOf Free) × (left o who ≡ 0) × (finishOf clause9 (o .table) who (meterOf (idle meters) who .serials + 1) .answer ≡ Done))
+  pub e7 : (meters : List Meter) (who r : ℕ) →
+      Spare meters who 1 0 →
+      let fuel = meterOf (idle meters) who .fuel in
+      let e = entry meters who 1 Free [] (r ∷ []) in
+      let o = begins (idle meters) who [] (r ∷ []) in
+      (fuel ≡ 3 → (number o ≡ 9) × (left o who ≡ 2)) ×
+      (fuel ≡ 4 → (o .answer ≡ named e) × (left o who ≡ 0) × (finishOf clause9 (o .table) who (e .serial) .answer ≡ Done))
   -- E8 Scan on fuel 1: "nothing" on an empty queue; refusal 9 on any other. Fuel 0 after both.
-  pub e8 : (meters : List Meter) (who : ℕ) → Tenant meters who → meterOf (idle meters) who .fuel ≡ 1 → let empty = scanOf clause9 (idle meters) who in ((empty .answer ≡ Nothing) × (left empty who ≡ 0)) × ((e : Request) (q : List Request) → let o = scanOf clause9 (record { meters = meters; queue = e ∷ q }) who in (number o ≡ 9) × (left o who ≡ 0))
+  pub e8 : (meters : List Meter) (who : ℕ) →
+      Tenant meters who →
+      meterOf (idle meters) who .fuel ≡ 1 →
+      let empty = scans meters [] who in
+      ((empty .answer ≡ Nothing) × (left empty who ≡ 0)) ×
+      ((e : Request) (q : List Request) → let other = scans meters (e ∷ q) who in (number other ≡ 9) × (left other who ≡ 0))
   -- E9 Eight rising reads pass; nine give 3.
-  pub e9 : (meters : List Meter) (who : ℕ) (reads : List ℕ) → Spare meters who 1 18 → rising reads ≡ true → let o = begins (idle meters) who reads [] in (length reads ≡ 8 → word o ≡ wordOf Free) × (length reads ≡ 9 → number o ≡ 3)
+  pub e9 : (meters : List Meter) (who : ℕ) (reads : List ℕ) →
+      Spare meters who 1 18 →
+      let o = begins (idle meters) who reads [] in
+      (length reads ≡ 8 → rising reads ≡ true → o .answer ≡ named (entry meters who 1 Free reads [])) ×
+      (length reads ≡ 9 → number o ≡ 3)
   -- E10 Shares adding to 64 open; 65 gives 14.
-  pub e10 : (shares : List ℕ) → length shares ≡ 16 → (total (λ n. n) shares ≡ 64 → openOf shares .answer ≡ Ok) × (total (λ n. n) shares ≡ 65 → number (openOf shares) ≡ 14)
+  pub e10 : (shares : List ℕ) →
+      length shares ≡ 16 →
+      (total (λ n. n) shares ≡ 64 → openOf shares .answer ≡ Ok) ×
+      (total (λ n. n) shares ≡ 65 → number (openOf shares) ≡ 14)

@@ -5,15 +5,15 @@ use mathlib.Core.Bool.{Bool, true, false}
 use mathlib.Core.List.{List, [], _++_}
 use lib.ListN.{length, replicate}
 use Rattle.rules.specs.declared.Answer.the-variants.{Refused}
+use Rattle.rules.specs.declared.Event.{Event}
 use Rattle.rules.specs.Lists.{if_then_else_}
 use Rattle.rules.specs.Table.{Table, meterOf, isTenant, fresh}
-use Rattle.rules.specs.Prices.{clause9}
-use Rattle.rules.specs.Runs.{Call, step}
+use Rattle.rules.specs.Prices.{pricesOf}
+use Rattle.rules.specs.Runs.{Call, eventOf, step}
 use Rattle.manager.specs.declared.State.{State}
 use Rattle.manager.specs.State.{view, Sound}
-use Rattle.events.specs.declared.Event.{Event}
 use Rattle.events.specs.declared.Next.{Next}
-use Rattle.events.specs.Events.{callAt, eventOf, tooLong, recordAt}
+use Rattle.events.specs.Events.{callAt, tooLong, recordAt}
 use Rattle.listing.specs.declared.Name.{Name}
 use Rattle.listing.specs.declared.Left.{Left}
 use Rattle.listing.specs.Listing.{lineOf, headerText}
@@ -21,28 +21,6 @@ use Rattle.listing.specs.Written.{Written}
 use Rattle.replay.specs.declared.Stepped.{Stepped}
 
 -- ---- one line
--- "call (its name in small letters"
-abbrev pub nameFor : Event → Name
-nameFor Event.Open = Name.Open
-nameFor (Event.Grant who amount) = Name.Grant
-nameFor (Event.Begin who awaited) = Name.Begin
-nameFor (Event.Finish who serial) = Name.Finish
-nameFor (Event.Recheck who serial) = Name.Recheck
-nameFor (Event.Scan who) = Name.Scan
-nameFor Event.Pick = Name.Pick
-nameFor (Event.Deliver who serial) = Name.Deliver
-
--- "the named tenant": 0, which is no tenant, where the call names none
-abbrev pub tenantOf : Event → ℕ
-tenantOf Event.Open = 0
-tenantOf (Event.Grant who amount) = who
-tenantOf (Event.Begin who awaited) = who
-tenantOf (Event.Finish who serial) = who
-tenantOf (Event.Recheck who serial) = who
-tenantOf (Event.Scan who) = who
-tenantOf Event.Pick = 0
-tenantOf (Event.Deliver who serial) = who
-
 -- "the named tenant's fuel afterwards, or - with no valid tenant named"
 abbrev pub leftAfter : Table → ℕ → Left
 leftAfter t who = if isTenant who then Left.Fuel (meterOf t who .fuel) else Left.Nobody
@@ -50,8 +28,9 @@ leftAfter t who = if isTenant who then Left.Fuel (meterOf t who .fuel) else Left
 -- "record number; call; answer; units burnt; the named tenant's fuel afterwards": all of it by the law book's step
 unfoldable pub callLine : ℕ → Table → Call → List ℕ
 callLine number t call =
-    let o = step clause9 t call in
-    lineOf number (nameFor (eventOf call)) (o .answer) (o .burnt) (leftAfter (o .table) (tenantOf (eventOf call)))
+    let e = eventOf call in
+    let o = step (pricesOf t) t call in
+    lineOf number (Name.Call (e .kind)) (o .answer) (o .burnt) (leftAfter (o .table) (e .tenant))
 
 -- "A file refusal prints the call file, burns 0, and -"
 abbrev pub fileLine : ℕ → ℕ → List ℕ
@@ -71,22 +50,22 @@ placeBy at (Next.Refused k) = at
 placeBy at Next.End = at
 
 -- the table then: a call's, by the law book
-abbrev pub tableBy : Table → Call → Next → Table
-tableBy t call (Next.Call e n) = step clause9 t call .table
-tableBy t call (Next.Refused k) = t
-tableBy t call Next.End = t
+abbrev pub tableBy : Table → List ℕ → ℕ → Next → Table
+tableBy t file at (Next.Call e n) = step (pricesOf t) t (callAt file at e) .table
+tableBy t file at (Next.Refused k) = t
+tableBy t file at Next.End = t
 
 -- "one line a record"
-abbrev pub lineBy : ℕ → Table → Call → Next → List ℕ
-lineBy number t call (Next.Call e n) = callLine number t call
-lineBy number t call (Next.Refused k) = fileLine number k
-lineBy number t call Next.End = []
+abbrev pub lineBy : ℕ → Table → List ℕ → ℕ → Next → List ℕ
+lineBy number t file at (Next.Call e n) = callLine number t (callAt file at e)
+lineBy number t file at (Next.Refused k) = fileLine number k
+lineBy number t file at Next.End = []
 
 -- r is what one step makes of the state s
 pub record Steps (s : State) (file : List ℕ) (at : ℕ) (first : Bool) (number : ℕ) (r : Stepped) : Type 0 where
   pub sound : Sound (r .state)
-  pub table : view (r .state) ≡ tableBy (view s) (callAt file at) (recordAt file at first)
-  pub line : Written (lineBy number (view s) (callAt file at) (recordAt file at first)) (r .line)
+  pub table : view (r .state) ≡ tableBy (view s) file at (recordAt file at first)
+  pub line : Written (lineBy number (view s) file at (recordAt file at first)) (r .line)
   pub next : r .next ≡ placeBy at (recordAt file at first)
   pub more : r .more ≡ goesOn (recordAt file at first)
   -- without a call the state is the very same
@@ -104,9 +83,8 @@ unfoldable pub linesFrom : ℕ → List ℕ → Table → ℕ → Bool → ℕ �
 linesFrom zero file t at first number = []
 linesFrom (suc k) file t at first number =
     let found = recordAt file at first in
-    let call = callAt file at in
-    lineBy number t call found ++
-    (if goesOn found then linesFrom k file (tableBy t call found) (placeBy at found) false (number + 1) else [])
+    lineBy number t file at found ++
+    (if goesOn found then linesFrom k file (tableBy t file at found) (placeBy at found) false (number + 1) else [])
 
 -- all that are left; a record has at least one byte
 abbrev pub linesLeft : List ℕ → Table → ℕ → Bool → ℕ → List ℕ

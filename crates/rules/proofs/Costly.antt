@@ -1,12 +1,12 @@
 -- The numbers that the table charges are 3 to 11: one computed test over the numbers below 12, and none above.
-use Prim.Native.Nat.{ℕ, zero, suc, _≤_, _<_}
+use Prim.Native.Nat.{ℕ, zero, suc, _≤_, _<_, min}
 use mathlib.Core.Path.{_≡_, refl, sym, ap, _∙_}
 use mathlib.Core.Bool.{Bool, true, false, _&&_, Bool·beq}
 use mathlib.Core.Logic.{⊎-elim}
 use native.Mathlib.Nat.{not-suc-le-zero}
 use native.Mathlib.Omega.{arith}
 use lib.Dec.{leb}
-use borrow.Author.Tests.{ne-eqb, lt-leb, le-leb}
+use borrow.Author.Tests.{ne-eqb, lt-leb, le-leb, leb-true}
 use Rattle.rules.specs.Lists.{some}
 use Rattle.rules.specs.Records.{member}
 use Rattle.rules.specs.Prices.{Prices, clause9, costly, charge}
@@ -45,7 +45,13 @@ costly-range n = ⊎-elim
     (λ (b : 12 ≤ n). past n b ∙ sym (ap (λ (t : Bool). leb 3 n && t) (lt-leb n 11 b) ∙ and-false (leb 3 n)))
     (lt-or-ge n 12)
 
--- ---- what a refusal burns under clause 9
+pub costly-low : (n : ℕ) → member n costly ≡ true → 3 ≤ n
+costly-low n costs = leb-true 3 n (both (leb 3 n) (leb n 11) (sym (costly-range n) ∙ costs) .0)
+
+pub costly-between : (n : ℕ) → 3 ≤ n → n ≤ 11 → member n costly ≡ true
+costly-between n low high = simp (costly-range, le-leb 3 n low, le-leb n 11 high)
+
+-- ---- what a refusal burns
 pub charge-low : (p : Prices) (fuel n : ℕ) → n < 3 → charge p fuel n ≡ 0
 unfolding charge
 charge-low p fuel n h = simp (costly-range, lt-leb 3 n h)
@@ -58,9 +64,14 @@ pub charge-dry : (p : Prices) (n : ℕ) → charge p 0 n ≡ 0
 unfolding charge
 charge-dry p n = if-either (λ (k : ℕ). k ≡ 0) (member n costly) (omega arith) refl
 
-pub charge-one : (fuel n : ℕ) → 3 ≤ n → n ≤ 11 → 0 < fuel → charge clause9 fuel n ≡ 1
+-- a charged refusal burns the list's charge, or what is left if less
+pub charge-unit : (p : Prices) (fuel n : ℕ) → member n costly ≡ true → charge p fuel n ≡ min (p .refused) fuel
 unfolding charge
-charge-one fuel n low high wet = simp (costly-range, le-leb 3 n low, le-leb n 11 high) (omega arith)
+charge-unit p fuel n costs = simp costs
+
+-- and document 01's, which is 1
+pub charge-one : (fuel n : ℕ) → member n costly ≡ true → 0 < fuel → charge clause9 fuel n ≡ 1
+charge-one fuel n costs wet = charge-unit clause9 fuel n costs ∙ omega arith
 
 -- and never more than there is
 pub charge-fits : (p : Prices) (fuel n : ℕ) → charge p fuel n ≤ fuel

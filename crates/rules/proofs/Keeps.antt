@@ -12,9 +12,9 @@ use Rattle.rules.specs.declared.Mode.the-variants.{Free, Waiting}
 use Rattle.rules.specs.Lists.{if_then_else_}
 use Rattle.rules.specs.Records.{WellFormed}
 use Rattle.rules.specs.Request.{Request, nobody, conflict, withMode, promoted}
-use Rattle.rules.specs.Table.{Meter, Table, isTenant, noMeter, meterOf, withMeter, withQueue, placesOf, spent, burn, mostFuel}
+use Rattle.rules.specs.Table.{Meter, Table, isTenant, noMeter, meterOf, withMeter, withQueue, placesOf, spent, burn, mostFuel, mostSerials}
 use Rattle.rules.specs.Calls.{withoutEntry, withEntry}
-use Rattle.rules.specs.Sound.{Each, Fit, SoundTable, SerialsRise, ClearOf, givenBy}
+use Rattle.rules.specs.Sound.{Each, Fit, SoundBy, Names, SerialsRise, ClearOf, givenBy}
 use Rattle.rules.proofs.Tests.{if-cases}
 use Rattle.rules.proofs.Lists.{total-set, count-set, count-without}
 use Rattle.rules.proofs.Meters.{tenant-range, meter-with}
@@ -23,7 +23,7 @@ use Rattle.rules.proofs.Room.{place-taken}
 
 -- ---- the meters
 -- a tenant's meter changes, its share the same and no serial taken back
-module _ {t : Table} (s : SoundTable t) (who : ℕ) (h : isTenant who ≡ true) (m : Meter) (share : m .share ≡ meterOf t who .share) (serials : meterOf t who .serials ≤ m .serials) where
+module _ {ok : ℕ → Type 0} {t : Table} (s : SoundBy ok t) (who : ℕ) (h : isTenant who ≡ true) (m : Meter) (share : m .share ≡ meterOf t who .share) (serials : meterOf t who .serials ≤ m .serials) where
   kept-share : (other : ℕ) → isTenant other ≡ true → meterOf (withMeter t who m) other .share ≡ meterOf t other .share
   kept-share other k =
       rw (meter-with t (s .sixteen) who h m other k)
@@ -47,28 +47,33 @@ module _ {t : Table} (s : SoundTable t) (who : ℕ) (h : isTenant who ≡ true) 
     lists = f .lists;
   }
 
-  pub sound-meter : m .fuel ≤ mostFuel → SoundTable (withMeter t who m)
-  sound-meter full = record {
+  pub sound-meter : m .fuel ≤ mostFuel → m .serials ≤ mostSerials → SoundBy ok (withMeter t who m)
+  sound-meter full named = record {
     sixteen = simp length-set (s .sixteen);
     shares = rw (total-set (λ (n : Meter). n .share) (t .meters) (who - 1) m noMeter share) (s .shares);
     fuel = each-set (who - 1) (s .fuel) full;
+    given = each-set (who - 1) (s .given) named;
     places = λ other k. rw (kept-share other k) (s .places other k);
     entries = each-map fit-still (s .entries);
+    records = s .records;
     serials = s .serials;
     clear = s .clear;
   }
 
-module _ {t : Table} (s : SoundTable t) where
-  -- no tank is above its limit
-  pub fuel-limit : (who : ℕ) → isTenant who ≡ true → meterOf t who .fuel ≤ mostFuel
-  fuel-limit who h =
-      let r = tenant-range who h in
-      let lt : who - 1 < length (t .meters) = omega (arith, s .sixteen, r .0, r .1) in
-      each-at (s .fuel) (who - 1) noMeter lt
+module _ {ok : ℕ → Type 0} {t : Table} (s : SoundBy ok t) where
+  -- a tenant has a meter, and its fuel and its serials keep their limits
+  has-meter : (who : ℕ) → isTenant who ≡ true → who - 1 < length (t .meters)
+  has-meter who h = let r = tenant-range who h in omega (arith, s .sixteen, r .0, r .1)
 
-  pub sound-burn : (who units : ℕ) → isTenant who ≡ true → SoundTable (burn who units t)
+  pub fuel-limit : (who : ℕ) → isTenant who ≡ true → meterOf t who .fuel ≤ mostFuel
+  fuel-limit who h = each-at (s .fuel) (who - 1) noMeter (has-meter who h)
+
+  pub serials-limit : (who : ℕ) → isTenant who ≡ true → meterOf t who .serials ≤ mostSerials
+  serials-limit who h = each-at (s .given) (who - 1) noMeter (has-meter who h)
+
+  pub sound-burn : (who units : ℕ) → isTenant who ≡ true → SoundBy ok (burn who units t)
   sound-burn who units h =
-      sound-meter s who h (spent (meterOf t who) units) refl (omega arith) (omega (arith, fuel-limit who h))
+      sound-meter s who h (spent (meterOf t who) units) refl (omega arith) (omega (arith, fuel-limit who h)) (serials-limit who h)
 
 -- who burns nothing leaves the table as it is
 pub burn-none : (who : ℕ) (t : Table) → burn who 0 t ≡ t
@@ -108,45 +113,53 @@ promoted-fit given e awaited due tenant from-one to-given lists = go (ltb 0 (e .
     }
 
 -- ---- the queue
-module _ {t : Table} (s : SoundTable t) where
+module _ {ok : ℕ → Type 0} {t : Table} (s : SoundBy ok t) where
   -- an entry joins the back
-  pub sound-joined : (e : Request) → Fit (givenBy t) e → placesOf (t .queue) (e .tenant) < meterOf t (e .tenant) .share → Each (λ a. SerialsRise a e) (t .queue) → Each (λ a. ClearOf a e) (t .queue) → SoundTable (withQueue t (t .queue ++ e ∷ []))
-  sound-joined e f place rise clear = record {
+  pub sound-joined : (e : Request) → Fit (givenBy t) e → Names ok e → placesOf (t .queue) (e .tenant) < meterOf t (e .tenant) .share → Each (λ a. SerialsRise a e) (t .queue) → Each (λ a. ClearOf a e) (t .queue) → SoundBy ok (withQueue t (t .queue ++ e ∷ []))
+  sound-joined e f named place rise clear = record {
     sixteen = s .sixteen;
     shares = s .shares;
     fuel = s .fuel;
+    given = s .given;
     places = place-taken s e place;
     entries = each-last (s .entries) f;
+    records = each-last (s .records) named;
     serials = order-last (s .serials) rise;
     clear = order-last (s .clear) clear;
   }
 
   -- an entry leaves
-  pub sound-removed : (at : ℕ) → at < length (t .queue) → SoundTable (withQueue t (withoutEntry at (t .queue)))
+  pub sound-removed : (at : ℕ) → at < length (t .queue) → SoundBy ok (withQueue t (withoutEntry at (t .queue)))
   sound-removed at lt = record {
     sixteen = s .sixteen;
     shares = s .shares;
     fuel = s .fuel;
+    given = s .given;
     places = λ who h. omega (arith, s .places who h, count-without (λ (a : Request). eqb (a .tenant) who) (t .queue) at nobody lt);
     entries = each-without at (s .entries);
+    records = each-without at (s .records);
     serials = order-without at (s .serials);
     clear = order-without at (s .clear);
   }
 
   -- an entry takes the place of another of the same name and lists
-  pub sound-replaced : (at : ℕ) → at < length (t .queue) → (e : Request) → let old = getD (t .queue) at nobody in e .tenant ≡ old .tenant → e .serial ≡ old .serial → e .reads ≡ old .reads → e .writes ≡ old .writes → Fit (givenBy t) e → Each (λ a. ClearOf a e) (take at (t .queue)) → SoundTable (withEntry t at e)
+  pub sound-replaced : (at : ℕ) → at < length (t .queue) → (e : Request) → let old = getD (t .queue) at nobody in e .tenant ≡ old .tenant → e .serial ≡ old .serial → e .reads ≡ old .reads → e .writes ≡ old .writes → Fit (givenBy t) e → Each (λ a. ClearOf a e) (take at (t .queue)) → SoundBy ok (withEntry t at e)
   unfolding conflict
   sound-replaced at lt e tenant serial reads writes f clear =
       let old = getD (t .queue) at nobody in
       let ahead : Each (λ a. SerialsRise a e) (take at (t .queue)) = each-map (λ a (r : SerialsRise a old). λ same. rw serial (r (same ∙ tenant))) (order-ahead at nobody lt (s .serials)) in
       let behind : (y : Request) → SerialsRise old y → SerialsRise e y = λ y (r : SerialsRise old y). λ same. rw serial (r (sym tenant ∙ same)) in
+      let was : Names ok old = each-at (s .records) at nobody lt in
+      let named : Names ok e = record { reads = rw reads (was .reads); writes = rw writes (was .writes) } in
       let after : (y : Request) → ClearOf old y → ClearOf e y = λ y (r : ClearOf old y). λ runs. rw (reads, writes) (r runs) in
       record {
         sixteen = s .sixteen;
         shares = s .shares;
         fuel = s .fuel;
+        given = s .given;
         places = λ who h. rw (count-set (λ (a : Request). eqb (a .tenant) who) (t .queue) at e nobody (ap (λ (n : ℕ). eqb n who) tenant)) (s .places who h);
         entries = each-set at (s .entries) f;
+        records = each-set at (s .records) named;
         serials = order-set at nobody lt (s .serials) ahead behind;
         clear = order-set at nobody lt (s .clear) clear after;
       }

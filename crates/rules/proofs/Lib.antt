@@ -17,4 +17,3 @@ pub mod Keeps
 pub mod Walks
 pub mod Sound
 pub mod Costly
-pub mod Charges

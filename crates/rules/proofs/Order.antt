@@ -25,6 +25,14 @@ module _ {A : Type 0} where
   each-append Each.none k = k
   each-append (Each.also p h) k = Each.also p (each-append h k)
 
+  pub each-parts : {P : A → Type 0} (xs : List A) {ys : List A} → Each P (xs ++ ys) → Each P xs × Each P ys
+  each-parts [] h = (Each.none, h)
+  each-parts (x ∷ xs) (Each.also p h) = let k = each-parts xs h in (Each.also p (k .0), k .1)
+
+  pub each-all : {P : A → Type 0} (xs : List A) → ((x : A) → P x) → Each P xs
+  each-all [] f = Each.none
+  each-all (x ∷ xs) f = Each.also (f x) (each-all xs f)
+
   pub each-last : {P : A → Type 0} {xs : List A} {e : A} → Each P xs → P e → Each P (xs ++ e ∷ [])
   each-last h p = each-append h (Each.also p Each.none)
 

@@ -10,7 +10,7 @@ use borrow.Author.Tests.{eqb-true, eqb-false, ne-eqb}
 use Rattle.rules.specs.Lists.{if_then_else_, countIf, total}
 use Rattle.rules.specs.Request.{Request}
 use Rattle.rules.specs.Table.{Meter, Table, isTenant, noMeter, meterOf, placesOf}
-use Rattle.rules.specs.Sound.{Each, SoundTable}
+use Rattle.rules.specs.Sound.{Each, SoundBy}
 use Rattle.rules.proofs.Tests.{one, one-le}
 use Rattle.rules.proofs.Meters.{tenant-range, tenant-test}
 use Rattle.rules.proofs.Order.{each-map, each-last}
@@ -79,8 +79,8 @@ queue-bound t six sum {q} tenants room =
     omega (arith, shares-hold 0 (t .meters) q ranged shares)
 
 -- one place more of a tenant below its share
-pub place-taken : {t : Table} → SoundTable t → (e : Request) → placesOf (t .queue) (e .tenant) < meterOf t (e .tenant) .share → (who : ℕ) → isTenant who ≡ true → placesOf (t .queue ++ e ∷ []) who ≤ meterOf t who .share
-place-taken {t} s e below who h = go (eqb (e .tenant) who) refl
+pub place-taken : {ok : ℕ → Type 0} {t : Table} → SoundBy ok t → (e : Request) → placesOf (t .queue) (e .tenant) < meterOf t (e .tenant) .share → (who : ℕ) → isTenant who ≡ true → placesOf (t .queue ++ e ∷ []) who ≤ meterOf t who .share
+place-taken {ok} {t} s e below who h = go (eqb (e .tenant) who) refl
   where
     go : (b : Bool) → eqb (e .tenant) who ≡ b → placesOf (t .queue ++ e ∷ []) who ≤ meterOf t who .share
     go true same =
@@ -92,12 +92,12 @@ place-taken {t} s e below who h = go (eqb (e .tenant) who) refl
         omega (arith, count-last (λ (a : Request). eqb (a .tenant) who) (t .queue) e, s .places who h)
 
 -- "a tenant below its share finds a slot"
-pub queue-room : {t : Table} → SoundTable t → (e : Request) → isTenant (e .tenant) ≡ true → placesOf (t .queue) (e .tenant) < meterOf t (e .tenant) .share → length (t .queue) < 64
-queue-room {t} s e tenant below =
+pub queue-room : {ok : ℕ → Type 0} {t : Table} → SoundBy ok t → (e : Request) → isTenant (e .tenant) ≡ true → placesOf (t .queue) (e .tenant) < meterOf t (e .tenant) .share → length (t .queue) < 64
+queue-room {ok} {t} s e tenant below =
     let all : Each (λ a. isTenant (a .tenant) ≡ true) (t .queue ++ e ∷ []) = each-last (each-map (λ a f. f .tenant) (s .entries)) tenant in
     let bound : length (t .queue ++ e ∷ []) ≤ 64 = queue-bound t (s .sixteen) (s .shares) all (place-taken s e below) in
     omega (arith, bound, length-append (t .queue) (e ∷ []))
 
 -- the queue of a sound table has at most 64 entries
-pub sound-count : {t : Table} → SoundTable t → length (t .queue) ≤ 64
-sound-count {t} s = queue-bound t (s .sixteen) (s .shares) (each-map (λ a f. f .tenant) (s .entries)) (s .places)
+pub sound-count : {ok : ℕ → Type 0} {t : Table} → SoundBy ok t → length (t .queue) ≤ 64
+sound-count {ok} {t} s = queue-bound t (s .sixteen) (s .shares) (each-map (λ a f. f .tenant) (s .entries)) (s .places)

@@ -2,7 +2,7 @@
 use Prim.Native.Nat.{ℕ, _+_, _-_, _≤_, _<_}
 use mathlib.Core.Path.{_≡_, refl, sym, ap, _∙_}
 use mathlib.Core.Bool.{Bool, true, false, _&&_}
-use mathlib.Core.List.{List, [], _∷_, map}
+use mathlib.Core.List.{List, [], _∷_, _++_, map}
 use native.Mathlib.Omega.{arith}
 use lib.Dec.{eqb}
 use lib.ListN.{length, getD, take, drop, replicate, length-map}
@@ -11,32 +11,32 @@ use Rattle.rules.specs.declared.Mode.{Mode}
 use Rattle.rules.specs.declared.Mode.the-variants.{Free, Waiting, Blocked}
 use Rattle.rules.specs.Lists.{if_then_else_, some, total, countIf}
 use Rattle.rules.specs.Request.{Request, nobody, size, conflict, conflictsAny, isWaiting, isBlocked, withMode, withDue, promoted, admitted, delivered}
-use Rattle.rules.specs.Table.{Meter, Table, isTenant, meterOf, withMeter, numbered, granted, placesOf, burn, fresh, newMeter, mostFuel}
+use Rattle.rules.specs.Table.{Meter, Table, isTenant, meterOf, withMeter, numbered, granted, placesOf, burn, fresh, newMeter, mostFuel, mostSerials}
 use Rattle.rules.specs.Prices.{Prices, admission}
 use Rattle.rules.specs.Refusals.{firstOf, standsAt, isAbsent, entryOf, beginRows, finishRows, recheckRows, scanRows, deliverRows, grantRows, openRows}
 use Rattle.rules.specs.Counters.{cx, cs, alone}
 use Rattle.rules.specs.Scan.{End, found, nothing, short}
 use Rattle.rules.specs.Calls.{toPay, withoutEntry, withEntry, asked, joined, found-table, search, pickEnd, beginOf, finishOf, recheckOf, scanOf, openOf, grantOf, pickOf, deliverOf}
-use Rattle.rules.specs.Runs.{Call, step}
+use Rattle.rules.specs.Runs.{Call, step, recordsOf}
 use Rattle.rules.specs.Runs.Call.{Begin, Finish, Recheck, Scan, Open, Grant, Pick, Deliver}
-use Rattle.rules.specs.Sound.{Each, InOrder, Fit, SoundTable, SerialsRise, ClearOf, givenBy}
+use Rattle.rules.specs.Sound.{Each, InOrder, Fit, SoundBy, SoundAny, Names, SerialsRise, ClearOf, givenBy}
 use Rattle.rules.proofs.Tests.{both, neither, if-cases}
 use Rattle.rules.proofs.Lists.{some-append}
 use Rattle.rules.proofs.Requests.{delivered-as, conflict-size}
 use Rattle.rules.proofs.Meters.{meter-own}
 use Rattle.rules.proofs.Admission.{Admissible}
 use Rattle.rules.proofs.Refusals.{stranger, free-of-charge, begin-passes, grant-passes, open-passes, finish-passes, recheck-passes, deliver-passes, here}
-use Rattle.rules.proofs.Order.{each-at, each-map, each-none, order-ahead}
-use Rattle.rules.proofs.Keeps.{sound-meter, sound-burn, burn-none, fuel-limit, promoted-fit, sound-joined, sound-removed, sound-replaced}
+use Rattle.rules.proofs.Order.{each-at, each-parts, each-all, each-map, each-none, order-ahead}
+use Rattle.rules.proofs.Keeps.{sound-meter, sound-burn, burn-none, fuel-limit, serials-limit, promoted-fit, sound-joined, sound-removed, sound-replaced}
 use Rattle.rules.proofs.Verdicts.{alone-conflicts}
 use Rattle.rules.proofs.Walks.{stop-clear, walk-stops}
 
 -- ---- a tenant's call: the deed is sound where there is no refusal, and burning keeps it so
-tenant-sound : (p : Prices) {t : Table} → SoundTable t → (who number price : ℕ) (deed : Table) → (isTenant who ≡ false → number ≡ 1) → (number ≡ 0 → SoundTable deed) → SoundTable (burn who (toPay p t who number price) (if eqb number 0 then deed else t))
-tenant-sound p {t} s who number price deed outside inside = go (isTenant who) refl
+tenant-sound : (p : Prices) {ok : ℕ → Type 0} {t : Table} → SoundBy ok t → (who number price : ℕ) (deed : Table) → (isTenant who ≡ false → number ≡ 1) → (number ≡ 0 → SoundBy ok deed) → SoundBy ok (burn who (toPay p t who number price) (if eqb number 0 then deed else t))
+tenant-sound p {ok} {t} s who number price deed outside inside = go (isTenant who) refl
   where
-    go : (b : Bool) → isTenant who ≡ b → SoundTable (burn who (toPay p t who number price) (if eqb number 0 then deed else t))
-    go true h = sound-burn (if-cases SoundTable (eqb number 0) (λ z. inside (eqb-true number 0 z)) (λ z. s)) who (toPay p t who number price) h
+    go : (b : Bool) → isTenant who ≡ b → SoundBy ok (burn who (toPay p t who number price) (if eqb number 0 then deed else t))
+    go true h = sound-burn (if-cases (SoundBy ok) (eqb number 0) (λ z. inside (eqb-true number 0 z)) (λ z. s)) who (toPay p t who number price) h
     go false h = rw (outside h, free-of-charge p (meterOf t who .fuel), burn-none who t) s
 
 -- what cannot be: false is not true
@@ -44,7 +44,7 @@ never : {A : Type 0} → false ≡ true → A
 never z = let k : _≡_ {A = ℕ} 0 1 = cc in absurd (omega arith)
 
 -- ---- Begin
-module _ (p : Prices) {t : Table} (s : SoundTable t) (who awaited : ℕ) (reads writes : List ℕ) (a : Admissible p t (asked t who awaited reads writes)) where
+module _ (p : Prices) {ok : ℕ → Type 0} {t : Table} (s : SoundBy ok t) (who awaited : ℕ) (reads writes : List ℕ) (named : Each ok (reads ++ writes)) (a : Admissible p t (asked t who awaited reads writes)) where
   abbrev wanted : Request
   wanted = asked t who awaited reads writes
 
@@ -52,8 +52,8 @@ module _ (p : Prices) {t : Table} (s : SoundTable t) (who awaited : ℕ) (reads 
   abbrev given : Table
   given = withMeter t who (numbered (meterOf t who))
 
-  given-sound : SoundTable given
-  given-sound = sound-meter s who (a .tenant) (numbered (meterOf t who)) refl (omega arith) (fuel-limit s who (a .tenant))
+  given-sound : SoundBy ok given
+  given-sound = sound-meter s who (a .tenant) (numbered (meterOf t who)) refl (omega arith) (fuel-limit s who (a .tenant)) (omega (arith, a .serial))
 
   given-own : meterOf given who ≡ numbered (meterOf t who)
   given-own = meter-own t (s .sixteen) who (a .tenant) (numbered (meterOf t who))
@@ -64,6 +64,9 @@ module _ (p : Prices) {t : Table} (s : SoundTable t) (who awaited : ℕ) (reads 
   rises : Each (λ x. SerialsRise x wanted) (t .queue)
   rises =
       each-map (λ x (f : Fit (givenBy t) x). λ (same : x .tenant ≡ who). let k : x .serial ≤ givenBy t who = rw same at (f .to-given) in omega arith) (s .entries)
+
+  names : Names ok wanted
+  names = let k = each-parts reads named in record { reads = k .0; writes = k .1 }
 
   place : placesOf (t .queue) who < meterOf given who .share
   place = let k : meterOf given who .share ≡ meterOf t who .share = ap (λ (m : Meter). m .share) given-own in omega (arith, a .place)
@@ -81,26 +84,26 @@ module _ (p : Prices) {t : Table} (s : SoundTable t) (who awaited : ℕ) (reads 
     lists = a .lists;
   }
 
-  pub begin-sound : SoundTable (joined t (admitted (t .queue) wanted))
+  pub begin-sound : SoundBy ok (joined t (admitted (t .queue) wanted))
   unfolding admitted promoted conflict
-  begin-sound = if-cases (λ (entry : Request). SoundTable (joined t entry)) (conflictsAny (t .queue) wanted)
-      (λ clash. sound-joined given-sound wanted (blocked-fit clash) place rises (each-map (λ x f. λ runs. never (sym runs)) (s .entries)))
+  begin-sound = if-cases (λ (entry : Request). SoundBy ok (joined t entry)) (conflictsAny (t .queue) wanted)
+      (λ clash. sound-joined given-sound wanted (blocked-fit clash) names place rises (each-map (λ x f. λ runs. never (sym runs)) (s .entries)))
       (λ clear.
       sound-joined given-sound (promoted wanted)
       (promoted-fit (givenBy given) wanted (a .awaited) (omega arith) (a .tenant) (omega arith) last-serial (a .lists))
-      place rises (each-map (λ x h. λ runs. h) (each-none (λ x. conflict x wanted) (t .queue) clear)))
+      (record { reads = names .reads; writes = names .writes }) place rises (each-map (λ x h. λ runs. h) (each-none (λ x. conflict x wanted) (t .queue) clear)))
 
-pub begin-keeps : (p : Prices) {t : Table} → SoundTable t → (who awaited : ℕ) (reads writes : List ℕ) → SoundTable (beginOf p t who awaited reads writes .table)
+pub begin-keeps : (p : Prices) {ok : ℕ → Type 0} {t : Table} → SoundBy ok t → (who awaited : ℕ) (reads writes : List ℕ) → Each ok (reads ++ writes) → SoundBy ok (beginOf p t who awaited reads writes .table)
 unfolding beginOf beginRows
-begin-keeps p {t} s who awaited reads writes =
+begin-keeps p {ok} {t} s who awaited reads writes named =
     let e = asked t who awaited reads writes in
     tenant-sound p s who (firstOf (beginRows p t e)) (admission p e) (joined t (admitted (t .queue) e)) (stranger who _)
-    (λ z. begin-sound p s who awaited reads writes (begin-passes p t e z))
+    (λ z. begin-sound p s who awaited reads writes named (begin-passes p t e z))
 
 -- ---- Finish
-pub finish-keeps : (p : Prices) {t : Table} → SoundTable t → (who serial : ℕ) → SoundTable (finishOf p t who serial .table)
+pub finish-keeps : (p : Prices) {ok : ℕ → Type 0} {t : Table} → SoundBy ok t → (who serial : ℕ) → SoundBy ok (finishOf p t who serial .table)
 unfolding finishOf finishRows
-finish-keeps p {t} s who serial =
+finish-keeps p {ok} {t} s who serial =
     tenant-sound p s who (firstOf (finishRows t who serial)) (p .finish) _ (stranger who _)
     (λ z. sound-removed s (standsAt who serial (t .queue)) (here who serial (t .queue) (finish-passes t who serial z .1)))
 
@@ -145,9 +148,9 @@ delivered-blocked e = go (e .mode) (eqb (e .due - 1) 0)
     go Blocked b = refl
 
 -- ---- an entry is changed where it stands
-module _ {t : Table} (s : SoundTable t) (at : ℕ) (there : at < length (t .queue)) where
+module _ {ok : ℕ → Type 0} {t : Table} (s : SoundBy ok t) (at : ℕ) (there : at < length (t .queue)) where
   -- an entry that conflicts with nothing ahead may run
-  pub promotion-sound : Each (λ a. conflict a (getD (t .queue) at nobody) ≡ false) (take at (t .queue)) → SoundTable (withEntry t at (promoted (getD (t .queue) at nobody)))
+  pub promotion-sound : Each (λ a. conflict a (getD (t .queue) at nobody) ≡ false) (take at (t .queue)) → SoundBy ok (withEntry t at (promoted (getD (t .queue) at nobody)))
   unfolding promoted conflict
   promotion-sound clear =
       let e = getD (t .queue) at nobody in
@@ -157,7 +160,7 @@ module _ {t : Table} (s : SoundTable t) (at : ℕ) (there : at < length (t .queu
       (each-map (λ a h. λ runs. h) clear)
 
   -- an answer changes neither name nor lists, and what ran may still run
-  pub delivery-sound : eqb (getD (t .queue) at nobody .due) 0 ≡ false → SoundTable (withEntry t at (delivered (getD (t .queue) at nobody)))
+  pub delivery-sound : eqb (getD (t .queue) at nobody .due) 0 ≡ false → SoundBy ok (withEntry t at (delivered (getD (t .queue) at nobody)))
   unfolding conflict
   delivery-sound some-due =
       let e = getD (t .queue) at nobody in
@@ -167,8 +170,8 @@ module _ {t : Table} (s : SoundTable t) (at : ℕ) (there : at < length (t .queu
       (each-map (λ a (h : ClearOf a e). λ runs. rw same (h (sym (delivered-blocked e) ∙ runs))) (order-ahead at nobody there (s .clear)))
 
 -- ---- Recheck
-pub recheck-sound : {t : Table} → SoundTable t → (who serial : ℕ) → isAbsent who serial (t .queue) ≡ false → alone (cx (t .queue)) (cs (t .queue)) (entryOf who serial (t .queue)) ≡ true → SoundTable (withEntry t (standsAt who serial (t .queue)) (promoted (entryOf who serial (t .queue))))
-recheck-sound {t} s who serial present clear =
+pub recheck-sound : {ok : ℕ → Type 0} {t : Table} → SoundBy ok t → (who serial : ℕ) → isAbsent who serial (t .queue) ≡ false → alone (cx (t .queue)) (cs (t .queue)) (entryOf who serial (t .queue)) ≡ true → SoundBy ok (withEntry t (standsAt who serial (t .queue)) (promoted (entryOf who serial (t .queue))))
+recheck-sound {ok} {t} s who serial present clear =
     let q = t .queue in
     let at = standsAt who serial q in
     let e = entryOf who serial q in
@@ -178,31 +181,31 @@ recheck-sound {t} s who serial present clear =
     let ahead = neither (conflictsAny (take at q) e) (conflictsAny (drop (at + 1) q) e) (sym (some-append (λ x. conflict x e) (take at q) (drop (at + 1) q)) ∙ none) in
     promotion-sound s at there (each-none (λ x. conflict x e) (take at q) (ahead .0))
 
-pub recheck-keeps : (p : Prices) {t : Table} → SoundTable t → (who serial : ℕ) → SoundTable (recheckOf p t who serial .table)
+pub recheck-keeps : (p : Prices) {ok : ℕ → Type 0} {t : Table} → SoundBy ok t → (who serial : ℕ) → SoundBy ok (recheckOf p t who serial .table)
 unfolding recheckOf recheckRows
-recheck-keeps p {t} s who serial =
+recheck-keeps p {ok} {t} s who serial =
     tenant-sound p s who (firstOf (recheckRows p t who serial)) _ _ (stranger who _)
-    (λ z. if-cases SoundTable (alone (cx (t .queue)) (cs (t .queue)) (entryOf who serial (t .queue))) (recheck-sound s who serial (recheck-passes p t who serial z .1)) (λ still. s))
+    (λ z. if-cases (SoundBy ok) (alone (cx (t .queue)) (cs (t .queue)) (entryOf who serial (t .queue))) (recheck-sound s who serial (recheck-passes p t who serial z .1)) (λ still. s))
 
 -- ---- a search, and Pick: where an entry is found, nothing ahead of it conflicts
-found-sound : {t : Table} → SoundTable t → (end : End) → ((at : ℕ) → end ≡ found at → (at < length (t .queue)) × (conflictsAny (take at (t .queue)) (getD (t .queue) at nobody) ≡ false)) → SoundTable (found-table t end)
-found-sound {t} s (found at) h =
+found-sound : {ok : ℕ → Type 0} {t : Table} → SoundBy ok t → (end : End) → ((at : ℕ) → end ≡ found at → (at < length (t .queue)) × (conflictsAny (take at (t .queue)) (getD (t .queue) at nobody) ≡ false)) → SoundBy ok (found-table t end)
+found-sound {ok} {t} s (found at) h =
     let k = h at refl in
     promotion-sound s at (k .0) (each-none (λ x. conflict x (getD (t .queue) at nobody)) (take at (t .queue)) (k .1))
 found-sound s nothing h = s
 found-sound s short h = s
 
 -- what the search of a tenant finds may run
-pub scan-sound : (p : Prices) {t : Table} → SoundTable t → (who : ℕ) → SoundTable (found-table t (search p t who .end))
-scan-sound p {t} s who =
+pub scan-sound : (p : Prices) {ok : ℕ → Type 0} {t : Table} → SoundBy ok t → (who : ℕ) → SoundBy ok (found-table t (search p t who .end))
+scan-sound p {ok} {t} s who =
     found-sound s (search p t who .end)
     (λ at e.
     let stop = walk-stops p who (meterOf t who .fuel - p .search) [] (t .queue) at e in
     (stop .there, stop-clear stop))
 
-pub scan-keeps : (p : Prices) {t : Table} → SoundTable t → (who : ℕ) → SoundTable (scanOf p t who .table)
+pub scan-keeps : (p : Prices) {ok : ℕ → Type 0} {t : Table} → SoundBy ok t → (who : ℕ) → SoundBy ok (scanOf p t who .table)
 unfolding scanOf scanRows
-scan-keeps p {t} s who =
+scan-keeps p {ok} {t} s who =
     tenant-sound p s who (firstOf (scanRows t who)) _ _ (stranger who _) (λ z. scan-sound p s who)
 
 -- the front has nothing ahead
@@ -215,28 +218,28 @@ front-found (x ∷ q) at =
     (λ h. λ (e : found 0 ≡ found at). let k : 0 ≡ at = cc in rw (← k) (omega arith, refl))
     (λ h. λ (e : nothing ≡ found at). let k : _≡_ {A = ℕ} 0 1 = cc in absurd (omega arith))
 
-pub pick-keeps : {t : Table} → SoundTable t → SoundTable (pickOf t .table)
+pub pick-keeps : {ok : ℕ → Type 0} {t : Table} → SoundBy ok t → SoundBy ok (pickOf t .table)
 unfolding pickOf
-pick-keeps {t} s = found-sound s (pickEnd (t .queue)) (front-found (t .queue))
+pick-keeps {ok} {t} s = found-sound s (pickEnd (t .queue)) (front-found (t .queue))
 
 -- ---- Deliver
-pub deliver-keeps : {t : Table} → SoundTable t → (who serial : ℕ) → SoundTable (deliverOf t who serial .table)
+pub deliver-keeps : {ok : ℕ → Type 0} {t : Table} → SoundBy ok t → (who serial : ℕ) → SoundBy ok (deliverOf t who serial .table)
 unfolding deliverOf
-deliver-keeps {t} s who serial =
-    if-cases SoundTable (eqb (firstOf (deliverRows t who serial)) 0)
+deliver-keeps {ok} {t} s who serial =
+    if-cases (SoundBy ok) (eqb (firstOf (deliverRows t who serial)) 0)
     (λ z.
     let a = deliver-passes t who serial (eqb-true _ 0 z) in
     delivery-sound s (standsAt who serial (t .queue)) (here who serial (t .queue) (a .0)) (a .1))
     (λ z. s)
 
 -- ---- Grant
-pub grant-sound : {t : Table} → SoundTable t → (who amount : ℕ) → isTenant who ≡ true → meterOf t who .fuel + amount ≤ mostFuel → SoundTable (withMeter t who (granted (meterOf t who) amount))
-grant-sound {t} s who amount h fits = sound-meter s who h (granted (meterOf t who) amount) refl (omega arith) fits
+pub grant-sound : {ok : ℕ → Type 0} {t : Table} → SoundBy ok t → (who amount : ℕ) → isTenant who ≡ true → meterOf t who .fuel + amount ≤ mostFuel → SoundBy ok (withMeter t who (granted (meterOf t who) amount))
+grant-sound {ok} {t} s who amount h fits = sound-meter s who h (granted (meterOf t who) amount) refl (omega arith) fits (serials-limit s who h)
 
-pub grant-keeps : {t : Table} → SoundTable t → (who amount : ℕ) → SoundTable (grantOf t who amount .table)
+pub grant-keeps : {ok : ℕ → Type 0} {t : Table} → SoundBy ok t → (who amount : ℕ) → SoundBy ok (grantOf t who amount .table)
 unfolding grantOf
-grant-keeps {t} s who amount =
-    if-cases SoundTable (eqb (firstOf (grantRows t who amount)) 0)
+grant-keeps {ok} {t} s who amount =
+    if-cases (SoundBy ok) (eqb (firstOf (grantRows t who amount)) 0)
     (λ z. let a = grant-passes t who amount (eqb-true _ 0 z) in grant-sound s who amount (a .0) (a .1))
     (λ z. s)
 
@@ -250,14 +253,20 @@ fresh-fuel : (shares : List ℕ) → Each (λ (m : Meter). m .fuel ≤ mostFuel)
 fresh-fuel [] = Each.none
 fresh-fuel (x ∷ shares) = let none : 0 ≤ mostFuel = omega arith in Each.also none (fresh-fuel shares)
 
-pub fresh-sound : (shares : List ℕ) → length shares ≡ 16 → total (λ n. n) shares ≤ 64 → SoundTable (fresh shares)
+fresh-given : (shares : List ℕ) → Each (λ (m : Meter). m .serials ≤ mostSerials) (map newMeter shares)
+fresh-given [] = Each.none
+fresh-given (x ∷ shares) = let none : 0 ≤ mostSerials = omega arith in Each.also none (fresh-given shares)
+
+pub fresh-sound : {ok : ℕ → Type 0} (shares : List ℕ) → length shares ≡ 16 → total (λ n. n) shares ≤ 64 → SoundBy ok (fresh shares)
 unfolding fresh countIf
 fresh-sound shares six sum = record {
   sixteen = length-map shares newMeter ∙ six;
   shares = rw (fresh-shares shares) sum;
   fuel = fresh-fuel shares;
+  given = fresh-given shares;
   places = λ who h. omega arith;
   entries = Each.none;
+  records = Each.none;
   serials = InOrder.none;
   clear = InOrder.none;
 }
@@ -267,24 +276,40 @@ unfolding total
 no-shares = omega arith
 
 -- refusal 14's table
-pub shut-sound : SoundTable (fresh (replicate 16 0))
+pub shut-sound : {ok : ℕ → Type 0} → SoundBy ok (fresh (replicate 16 0))
 shut-sound = fresh-sound (replicate 16 0) refl no-shares
 
-pub open-sound : (shares : List ℕ) → SoundTable (openOf shares .table)
+pub open-sound : {ok : ℕ → Type 0} (shares : List ℕ) → SoundBy ok (openOf shares .table)
 unfolding openOf
-open-sound shares =
-    if-cases SoundTable (eqb (firstOf (openRows shares)) 0)
+open-sound {ok} shares =
+    if-cases (SoundBy ok) (eqb (firstOf (openRows shares)) 0)
     (λ z. let a = open-passes shares (eqb-true _ 0 z) in fresh-sound shares (a .0) (a .1))
     (λ z. shut-sound)
 
 -- ---- any call
-pub step-sound : (p : Prices) {t : Table} → SoundTable t → (c : Call) → SoundTable (step p t c .table)
-unfolding step
-step-sound p s (Begin who awaited reads writes) = begin-keeps p s who awaited reads writes
-step-sound p s (Finish who serial) = finish-keeps p s who serial
-step-sound p s (Recheck who serial) = recheck-keeps p s who serial
-step-sound p s (Scan who) = scan-keeps p s who
-step-sound p s (Open shares) = open-sound shares
-step-sound p s (Grant who amount) = grant-keeps s who amount
-step-sound p s Pick = pick-keeps s
-step-sound p s (Deliver who serial) = deliver-keeps s who serial
+pub step-sound : (p : Prices) {ok : ℕ → Type 0} {t : Table} → SoundBy ok t → (c : Call) → Each ok (recordsOf c) → SoundBy ok (step p t c .table)
+step-sound p s (Begin who awaited reads writes) named = begin-keeps p s who awaited reads writes named
+step-sound p s (Finish who serial) named = finish-keeps p s who serial
+step-sound p s (Recheck who serial) named = recheck-keeps p s who serial
+step-sound p s (Scan who) named = scan-keeps p s who
+step-sound p s (Open shares) named = open-sound shares
+step-sound p s (Grant who amount) named = grant-keeps s who amount
+step-sound p s Pick named = pick-keeps s
+step-sound p s (Deliver who serial) named = deliver-keeps s who serial
+
+-- ---- whatever records are named
+pub step-any : (p : Prices) {t : Table} → SoundAny t → (c : Call) → SoundAny (step p t c .table)
+step-any p s c = step-sound p s c (each-all (recordsOf c) (λ r. tt))
+
+pub sound-any : {ok : ℕ → Type 0} {t : Table} → SoundBy ok t → SoundAny t
+sound-any s = record {
+  sixteen = s .sixteen;
+  shares = s .shares;
+  fuel = s .fuel;
+  given = s .given;
+  places = s .places;
+  entries = s .entries;
+  records = each-map (λ e k. record { reads = each-all (e .reads) (λ r. tt); writes = each-all (e .writes) (λ r. tt) }) (s .records);
+  serials = s .serials;
+  clear = s .clear;
+}

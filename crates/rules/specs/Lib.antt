@@ -2,6 +2,7 @@ pub mod Lists
 pub mod Records
 pub mod Request
 pub mod Table
+pub mod CallTable
 pub mod Prices
 pub mod Refusals
 pub mod Counters

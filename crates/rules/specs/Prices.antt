@@ -4,6 +4,7 @@ use mathlib.Core.List.{List, [], _∷_}
 use Rattle.rules.specs.Lists.{if_then_else_, total}
 use Rattle.rules.specs.Records.{member}
 use Rattle.rules.specs.Request.{Request, size}
+use Rattle.rules.specs.Table.{Table}
 
 pub record Prices : Type 0 where
   -- a request of n records, and its release, which is paid with it
@@ -31,6 +32,10 @@ clause9 = record {
   look = λ n. 1 + n;
   refused = 1;
 }
+
+-- the prices that a table's calls are paid at: document 01's, whatever the table
+abbrev pub pricesOf : Table → Prices
+pricesOf t = clause9
 
 -- "The price is 2 + 2n: 1 + n now and 1 + n for the release"
 abbrev pub admission : Prices → Request → ℕ

@@ -1,5 +1,5 @@
 -- What document 01 writes for an answer: its number in the table (0 where it is no refusal), the listing's word as bytes,
--- and the values behind it, tenant and serial.
+-- and the values behind it: a refusal's number, or an entry's tenant and serial.
 use Prim.Native.Nat.{ℕ}
 use mathlib.Core.List.{List, [], _∷_}
 use Rattle.rules.specs.declared.Mode.{Mode}
@@ -24,5 +24,5 @@ said Ok = record { number = 0; word = 111 ∷ 107 ∷ []; values = [] }
 said Done = record { number = 0; word = 100 ∷ 111 ∷ 110 ∷ 101 ∷ []; values = [] }
 said Still = record { number = 0; word = 115 ∷ 116 ∷ 105 ∷ 108 ∷ 108 ∷ []; values = [] }
 said Nothing = record { number = 0; word = 110 ∷ 111 ∷ 116 ∷ 104 ∷ 105 ∷ 110 ∷ 103 ∷ []; values = [] }
-said (Refused number) = record { number = number; word = 114 ∷ 101 ∷ 102 ∷ 117 ∷ 115 ∷ 101 ∷ 100 ∷ []; values = [] }
+said (Refused number) = record { number = number; word = 114 ∷ 101 ∷ 102 ∷ 117 ∷ 115 ∷ 101 ∷ 100 ∷ []; values = number ∷ [] }
 said (Named mode tenant serial) = record { number = 0; word = wordOf mode; values = tenant ∷ serial ∷ [] }

@@ -8,7 +8,7 @@ use lib.ListN.{length}
 use Rattle.rules.specs.Lists.{total}
 use Rattle.rules.specs.Records.{WellFormed}
 use Rattle.rules.specs.Request.{Request, size, conflict, isFree, isWaiting, isBlocked}
-use Rattle.rules.specs.Table.{Table, isTenant, meterOf, placesOf, mostFuel}
+use Rattle.rules.specs.Table.{Table, isTenant, meterOf, placesOf, mostFuel, mostSerials}
 
 -- it holds of each element
 pub data Each {A : Type 0} (P : A → Type 0) : List A → Type 0 where
@@ -48,14 +48,30 @@ SerialsRise a e = a .tenant ≡ e .tenant → a .serial < e .serial
 abbrev pub ClearOf : Request → Request → Type 0
 ClearOf a e = isBlocked (e .mode) ≡ false → conflict a e ≡ false
 
-pub record SoundTable (t : Table) : Type 0 where
+-- the records that the entry names are all of them so
+pub record Names (ok : ℕ → Type 0) (e : Request) : Type 0 where
+  pub reads : Each ok (e .reads)
+  pub writes : Each ok (e .writes)
+
+-- a table whose entries name only records that are `ok`: every call keeps it so that names none but these
+pub record SoundBy (ok : ℕ → Type 0) (t : Table) : Type 0 where
   pub sixteen : length (t .meters) ≡ 16
   -- "shares sum to at most 64"
   pub shares : total (λ m. m .share) (t .meters) ≤ 64
-  -- "fuel ... keep document 01's limits"
+  -- "fuel ... keep document 01's limits", and so do the serials given
   pub fuel : Each (λ m. m .fuel ≤ mostFuel) (t .meters)
+  pub given : Each (λ m. m .serials ≤ mostSerials) (t .meters)
   -- "none above its share"
   pub places : (who : ℕ) → isTenant who ≡ true → placesOf (t .queue) who ≤ meterOf t who .share
   pub entries : Each (Fit (givenBy t)) (t .queue)
+  pub records : Each (Names ok) (t .queue)
   pub serials : InOrder SerialsRise (t .queue)
   pub clear : InOrder ClearOf (t .queue)
+
+-- "Records are numbered 0 to 255"
+abbrev pub SoundTable : Table → Type 0
+SoundTable = SoundBy (λ r. r ≤ 255)
+
+-- sound but for that, as the law book's calls keep it whatever numbers they name
+abbrev pub SoundAny : Table → Type 0
+SoundAny = SoundBy (λ r. Unit {0})

@@ -1,18 +1,4 @@
-// What the law book shares with the code: the state of an entry, the answer of a call, and document 01's limits.
-pub const RECORDS: usize = 256;
-
-pub const PLACES: usize = 64;
-
-pub const TENANTS: usize = 16;
-
-pub const LIST: usize = 8;
-
-pub const AWAITED: u8 = 15;
-
-pub const FUEL: u32 = 1_000_000_000;
-
-pub const SERIALS: u16 = 65_535;
-
+// What the law book shares with the code: the state of an entry, the answer of a call, and which call an event asks for.
 // An entry's state: running, waiting for remote answers, or blocked.
 pub enum Mode {
     Free,
@@ -28,4 +14,25 @@ pub enum Answer {
     Nothing,
     Refused(u8),
     Named(Mode, u8, u16),
+}
+
+// The calls, each with its row in the law book's table (specs/CallTable.antt).
+pub enum Kind {
+    Open,
+    Grant,
+    Begin,
+    Finish,
+    Recheck,
+    Scan,
+    Pick,
+    Deliver,
+}
+
+// A call without its lists: the tenant that it names and its numbers, 0 where it has none.
+pub struct Event {
+    pub kind: Kind,
+    pub tenant: u8,
+    pub awaited: u8,
+    pub serial: u16,
+    pub amount: u32,
 }

@@ -74,6 +74,19 @@ impl Sheet {
         self.call(Event::Deliver { tenant, serial });
     }
 
+    /// For each place of the queue, front first, the two verdicts on "nothing
+    /// ahead conflicts": the map's and the plain comparison's. This program has
+    /// one, a comparison pair by pair, and both must be it.
+    fn verdicts(&mut self) {
+        let queue = &self.table.queue;
+        for (place, entry) in queue.iter().enumerate() {
+            let mut ahead = queue[..place].iter();
+            let held = ahead.any(|other| entry.conflicts_with(other));
+            let verdict = if held { "held" } else { "clear" };
+            self.text += &format!("verdict {} {} {}\n", place, verdict, verdict);
+        }
+    }
+
     /// One request of tenant 1 without records comes and goes. No line is
     /// written.
     fn round(&mut self, serial: u16) {
@@ -91,6 +104,7 @@ fn calls(sheet: &mut Sheet) {
     sheet.begin(1, 0, &[], &[11]);
     sheet.begin(2, 0, &[], &[10, 12]);
     sheet.begin(2, 0, &[], &[12]);
+    sheet.verdicts();
     sheet.recheck(2, 1);
     sheet.finish(1, 1);
     sheet.scan(2);
@@ -104,6 +118,7 @@ fn calls(sheet: &mut Sheet) {
 fn remote(sheet: &mut Sheet) {
     sheet.begin(1, 2, &[5], &[]);
     sheet.begin(2, 1, &[], &[5, 6]);
+    sheet.verdicts();
     sheet.deliver(2, 3);
     sheet.deliver(1, 3);
     sheet.deliver(1, 3);
@@ -127,6 +142,7 @@ fn short(sheet: &mut Sheet) {
     sheet.scan(3);
     sheet.scan(1);
     sheet.grant(1, 40);
+    sheet.verdicts();
     sheet.finish(2, 3);
     sheet.scan(1);
 }
@@ -226,6 +242,7 @@ fn afterwards(sheet: &mut Sheet) {
     sheet.grant(2, 40);
     sheet.begin(2, 0, &[20], &[]);
     sheet.begin(2, 1, &[], &[20]);
+    sheet.verdicts();
     sheet.recheck(2, 2);
     sheet.scan(2);
     sheet.finish(2, 1);

@@ -1,34 +1,35 @@
--- By the tag: each arm's bytes are in the file, since the length suits the tag, and they are the call's.
+-- By the kind: each arm's bytes are in the file, since the length suits the kind, and they are the call's.
 use borrow.Author.Needs.{needs}
-use Prim.Native.Nat.{_+_}
-use mathlib.Core.Path.{sym, ap, _∙_}
+use Prim.Native.Nat.{ℕ, _+_}
+use mathlib.Core.Path.{refl, sym, ap, _∙_}
 use native.Mathlib.Omega.{arith}
-use Rattle.events.specs.declared.Event.{Event}
-use Rattle.events.specs.Events.{byteAt, tagAt}
-use Rattle.events.proofs.Tags.{Last, begins, grant-length, finish-length, recheck-length, scan-length, deliver-length, open-event, grant-event, begin-event, finish-event, recheck-event, scan-event, pick-event, deliver-event}
+use Rattle.rules.specs.Runs.{event}
+use Rattle.events.specs.Events.{byteAt, callOf}
+use Rattle.events.proofs.Bodies.{same-body, has-bytes, has-head, tenant-event, entry-event, amount-event, lists-event}
 use Rattle.events.proofs.event_at.Statement.{statement}
 use Rattle.events.proofs.event_at.Tie as tie
 use Rattle.events.proofs.event_at.Reads as reads
 use Rattle.events.proofs.event_at.Lts as lts
 use Rattle.events.proofs.amount_at.Reads as amount-at-reads
-use Rattle.events.proofs.serial_at.Reads as serial-at-reads
+use Rattle.events.proofs.entry_event.Reads as entry-event-reads
+use Rattle.events.proofs.event.Reads as event-reads
 
--- none of the arms before the last
-last : (c : tie.At-match-rest) → let s = c .before .before .before in Last (tagAt (s .args .s .now) (s .args .at))
-last c =
-    let o = c .match .rest in
-    record { not1 = o .0 .0 .0 .0 .0 .0 .1; not2 = o .0 .0 .0 .0 .0 .1; not3 = o .0 .0 .0 .0 .1; not4 = o .0 .0 .0 .1; not5 = o .0 .0 .1; not6 = o .0 .1; not7 = o .1 }
+enum-told : tie.Need-enum-told
+enum-told c = search needs
 
-shared-slice-read-match : tie.Need-shared-slice-read-match
-shared-slice-read-match c = search needs
+event-requires : tie.Need-event-requires
+event-requires c κs = search needs
 
-add-t7 : tie.Need-add-t7
-add-t7 c = search needs
+enum-told-2 : tie.Need-enum-told-2
+enum-told-2 c = search needs
 
-shared-slice-read-t9 : tie.Need-shared-slice-read-t9
-shared-slice-read-t9 c =
+add-event : tie.Need-add-event
+add-event c = search needs
+
+shared-slice-read-event : tie.Need-shared-slice-read-event
+shared-slice-read-event c =
     let s = c .before .before .before .before in
-    let n = grant-length (s .args .s .now) (s .args .at) (s .pre) (c .before .match .keys2) in
+    let n = has-bytes (s .pre) 5 (same-body (c .before .enum-told2 .given .1)) in
     omega arith
 
 add-amount-at : tie.Need-add-amount-at
@@ -37,157 +38,165 @@ add-amount-at c = search needs
 amount-at-requires : tie.Need-amount-at-requires
 amount-at-requires c κs =
     let s = c .before .before .before .before in
-    let n = grant-length (s .args .s .now) (s .args .at) (s .pre) (c .before .match .keys2) in
+    let n = has-bytes (s .pre) 5 (same-body (c .before .enum-told2 .given .1)) in
     omega arith
 
-add-t12 : tie.Need-add-t12
-add-t12 c = search needs
+event-requires-2 : tie.Need-event-requires-2
+event-requires-2 c κs = search needs
 
-shared-slice-read-t14 : tie.Need-shared-slice-read-t14
-shared-slice-read-t14 c =
+enum-told-3 : tie.Need-enum-told-3
+enum-told-3 c = search needs
+
+add-event-2 : tie.Need-add-event-2
+add-event-2 c = search needs
+
+shared-slice-read-event-2 : tie.Need-shared-slice-read-event-2
+shared-slice-read-event-2 c =
     let s = c .before .before .before .before in
-    let n = begins (s .args .s .now) (s .args .at) (s .pre) (c .before .match .keys3) in
+    let n = has-head (s .pre) (same-body (c .before .enum-told3 .given .1)) in
     omega arith
 
-add-t15 : tie.Need-add-t15
-add-t15 c = search needs
+add-event-3 : tie.Need-add-event-3
+add-event-3 c = search needs
 
-shared-slice-read-t17 : tie.Need-shared-slice-read-t17
-shared-slice-read-t17 c =
+shared-slice-read-event-3 : tie.Need-shared-slice-read-event-3
+shared-slice-read-event-3 c =
     let s = c .before .before .before .before .before in
-    let n = begins (s .args .s .now) (s .args .at) (s .pre) (c .before .before .match .keys3) in
+    let n = has-head (s .pre) (same-body (c .before .before .enum-told3 .given .1)) in
     omega arith
 
-add-t18 : tie.Need-add-t18
-add-t18 c = search needs
+event-requires-3 : tie.Need-event-requires-3
+event-requires-3 c κs = search needs
 
-shared-slice-read-t20 : tie.Need-shared-slice-read-t20
-shared-slice-read-t20 c =
-    let s = c .before .before .before .before in
-    let n = finish-length (s .args .s .now) (s .args .at) (s .pre) (c .before .match .keys4) in
+enum-told-4 : tie.Need-enum-told-4
+enum-told-4 c = search needs
+
+entry-event-requires : tie.Need-entry-event-requires
+entry-event-requires c κs =
+    let s = c .before .before .before in
+    let n = has-bytes (s .pre) 3 (same-body (c .enum-told4 .given .1)) in
     omega arith
 
-add-serial-at : tie.Need-add-serial-at
-add-serial-at c = search needs
+enum-told-5 : tie.Need-enum-told-5
+enum-told-5 c = search needs
 
-serial-at-requires : tie.Need-serial-at-requires
-serial-at-requires c κs =
-    let s = c .before .before .before .before in
-    let n = finish-length (s .args .s .now) (s .args .at) (s .pre) (c .before .match .keys4) in
+entry-event-requires-2 : tie.Need-entry-event-requires-2
+entry-event-requires-2 c κs =
+    let s = c .before .before .before in
+    let n = has-bytes (s .pre) 3 (same-body (c .enum-told5 .given .1)) in
     omega arith
 
-add-t23 : tie.Need-add-t23
-add-t23 c = search needs
+enum-told-6 : tie.Need-enum-told-6
+enum-told-6 c = search needs
 
-shared-slice-read-t25 : tie.Need-shared-slice-read-t25
-shared-slice-read-t25 c =
+add-event-4 : tie.Need-add-event-4
+add-event-4 c = search needs
+
+shared-slice-read-event-4 : tie.Need-shared-slice-read-event-4
+shared-slice-read-event-4 c =
     let s = c .before .before .before .before in
-    let n = recheck-length (s .args .s .now) (s .args .at) (s .pre) (c .before .match .keys5) in
+    let n = has-bytes (s .pre) 1 (same-body (c .before .enum-told6 .given .1)) in
     omega arith
 
-add-serial-at-2 : tie.Need-add-serial-at-2
-add-serial-at-2 c = search needs
+event-requires-4 : tie.Need-event-requires-4
+event-requires-4 c κs = search needs
 
-serial-at-requires-2 : tie.Need-serial-at-requires-2
-serial-at-requires-2 c κs =
-    let s = c .before .before .before .before in
-    let n = recheck-length (s .args .s .now) (s .args .at) (s .pre) (c .before .match .keys5) in
-    omega arith
+enum-told-7 : tie.Need-enum-told-7
+enum-told-7 c = search needs
 
-add-t28 : tie.Need-add-t28
-add-t28 c = search needs
+event-requires-5 : tie.Need-event-requires-5
+event-requires-5 c κs = search needs
 
-shared-slice-read-t30 : tie.Need-shared-slice-read-t30
-shared-slice-read-t30 c =
-    let s = c .before .before .before .before in
-    let n = scan-length (s .args .s .now) (s .args .at) (s .pre) (c .before .match .keys6) in
-    omega arith
+enum-told-8 : tie.Need-enum-told-8
+enum-told-8 c = search needs
 
-add-t31 : tie.Need-add-t31
-add-t31 c = search needs
-
-shared-slice-read-t33 : tie.Need-shared-slice-read-t33
-shared-slice-read-t33 c =
-    let s = c .before .before .before .before in
-    let n = deliver-length (s .args .s .now) (s .args .at) (s .pre) (last (c .before)) in
-    omega arith
-
-add-serial-at-3 : tie.Need-add-serial-at-3
-add-serial-at-3 c = search needs
-
-serial-at-requires-3 : tie.Need-serial-at-requires-3
-serial-at-requires-3 c κs =
-    let s = c .before .before .before .before in
-    let n = deliver-length (s .args .s .now) (s .args .at) (s .pre) (last (c .before)) in
+entry-event-requires-3 : tie.Need-entry-event-requires-3
+entry-event-requires-3 c κs =
+    let s = c .before .before .before in
+    let n = has-bytes (s .pre) 3 (same-body (c .enum-told8 .given .1)) in
     omega arith
 
 returns : tie.Need-returns
-returns c =
-    let s = c .before .before .before in
-    sym (open-event (s .args .s .now) (s .args .at) (s .pre) (c .match .keys1))
+unfolding callOf
+returns c = c .event .ensures ∙ rw (c .before .enum-told .given .1) refl
 
 returns-2 : tie.Need-returns-2
+unfolding callOf
 returns-2 c =
-    let s = c .before .before .before .before .before in
-    ap (Event.Grant (byteAt (s .args .s .now) (s .args .at + 3))) (c .amount-at .ensures) ∙ sym (grant-event (s .args .s .now) (s .args .at) (s .pre) (c .before .before .match .keys2))
+    let s = c .before .before .before .before .before .before in
+    let told = c .before .before .before .enum-told2 .given .1 in
+    let who = byteAt (s .args .s .now) (s .args .at + 3) in
+    c .event2 .ensures ∙ ap (event (s .args .kind) who 0 0) (c .before .amount-at .ensures) ∙ sym (amount-event (s .pre) (same-body told)) ∙ rw told refl
 
 returns-3 : tie.Need-returns-3
+unfolding callOf
 returns-3 c =
-    let s = c .before .before .before .before .before in
-    sym (begin-event (s .args .s .now) (s .args .at) (s .pre) (c .before .before .match .keys3))
+    let s = c .before .before .before .before .before .before in
+    let told = c .before .before .before .enum-told3 .given .1 in
+    c .event3 .ensures ∙ sym (lists-event (s .pre) (same-body told)) ∙ rw told refl
 
 returns-4 : tie.Need-returns-4
+unfolding callOf
 returns-4 c =
-    let s = c .before .before .before .before .before in
-    ap (Event.Finish (byteAt (s .args .s .now) (s .args .at + 3))) (c .serial-at .ensures) ∙ sym (finish-event (s .args .s .now) (s .args .at) (s .pre) (c .before .before .match .keys4))
+    let s = c .before .before .before .before in
+    let told = c .before .enum-told4 .given .1 in
+    c .entry-event .ensures ∙ sym (entry-event (s .pre) (same-body told)) ∙ rw told refl
 
 returns-5 : tie.Need-returns-5
+unfolding callOf
 returns-5 c =
-    let s = c .before .before .before .before .before in
-    ap (Event.Recheck (byteAt (s .args .s .now) (s .args .at + 3))) (c .serial-at2 .ensures) ∙ sym (recheck-event (s .args .s .now) (s .args .at) (s .pre) (c .before .before .match .keys5))
+    let s = c .before .before .before .before in
+    let told = c .before .enum-told5 .given .1 in
+    c .entry-event2 .ensures ∙ sym (entry-event (s .pre) (same-body told)) ∙ rw told refl
 
 returns-6 : tie.Need-returns-6
+unfolding callOf
 returns-6 c =
-    let s = c .before .before .before .before in
-    sym (scan-event (s .args .s .now) (s .args .at) (s .pre) (c .before .match .keys6))
+    let s = c .before .before .before .before .before in
+    let told = c .before .before .enum-told6 .given .1 in
+    c .event4 .ensures ∙ sym (tenant-event (s .pre) (same-body told)) ∙ rw told refl
 
 returns-7 : tie.Need-returns-7
-returns-7 c =
-    let s = c .before .before .before in
-    sym (pick-event (s .args .s .now) (s .args .at) (s .pre) (c .match .keys7))
+unfolding callOf
+returns-7 c = c .event5 .ensures ∙ rw (c .before .enum-told7 .given .1) refl
 
 returns-8 : tie.Need-returns-8
+unfolding callOf
 returns-8 c =
-    let s = c .before .before .before .before .before in
-    ap (Event.Deliver (byteAt (s .args .s .now) (s .args .at + 3))) (c .serial-at3 .ensures) ∙ sym (deliver-event (s .args .s .now) (s .args .at) (s .pre) (last (c .before .before)))
+    let s = c .before .before .before .before in
+    let told = c .before .enum-told8 .given .1 in
+    c .entry-event3 .ensures ∙ sym (entry-event (s .pre) (same-body told)) ∙ rw told refl
 
 pub event-at-spec : {M : Type 1} → statement M
 event-at-spec =
     tie.close
     (tie.spec
-    shared-slice-read-match
-    add-t7
-    shared-slice-read-t9
+    enum-told
+    event-requires
+    enum-told-2
+    add-event
+    shared-slice-read-event
     add-amount-at
     amount-at-requires
-    add-t12
-    shared-slice-read-t14
-    add-t15
-    shared-slice-read-t17
-    add-t18
-    shared-slice-read-t20
-    add-serial-at
-    serial-at-requires
-    add-t23
-    shared-slice-read-t25
-    add-serial-at-2
-    serial-at-requires-2
-    add-t28
-    shared-slice-read-t30
-    add-t31
-    shared-slice-read-t33
-    add-serial-at-3
-    serial-at-requires-3
+    event-requires-2
+    enum-told-3
+    add-event-2
+    shared-slice-read-event-2
+    add-event-3
+    shared-slice-read-event-3
+    event-requires-3
+    enum-told-4
+    entry-event-requires
+    enum-told-5
+    entry-event-requires-2
+    enum-told-6
+    add-event-4
+    shared-slice-read-event-4
+    event-requires-4
+    enum-told-7
+    event-requires-5
+    enum-told-8
+    entry-event-requires-3
     returns
     returns-2
     returns-3

@@ -1,65 +1,79 @@
--- The end, a refusal, or the call: one law of `recordAt` each.
+-- The end, a refusal, or what a whole record is read as: one law of `recordAt` each.
 use borrow.Author.Needs.{needs}
 use mathlib.Core.Path.{_≡_, sym, _∙_}
-use native.Mathlib.Omega.{arith}
 use Rattle.rules.specs.Refusals.{firstOf}
-use Rattle.events.specs.Events.{fileRows, Suited}
-use Rattle.events.proofs.Rows.{passes}
-use Rattle.events.proofs.Answers.{at-end, at-refusal, at-call}
+use Rattle.events.specs.Events.{recordRows}
+use Rattle.events.proofs.Rows.{unbroken, whole, known}
+use Rattle.events.proofs.Answers.{at-end, at-refusal, at-whole}
 use Rattle.events.proofs.record_at.Statement.{statement}
 use Rattle.events.proofs.record_at.Tie as tie
 use Rattle.events.proofs.record_at.Reads as reads
 use Rattle.events.proofs.record_at.Lts as lts
-use Rattle.events.proofs.event_at.Reads as event-at-reads
-use Rattle.events.proofs.length_at.Reads as length-at-reads
-use Rattle.events.proofs.refusal.Reads as refusal-reads
+use Rattle.events.proofs.broken.Reads as broken-reads
+use Rattle.events.proofs.kind_of.Reads as kind-of-reads
+use Rattle.events.proofs.placed.Reads as placed-reads
 
--- no refusal, so the length suits the tag
-unrefused : (c : tie.Else2) → let a = c .before .before .before .before .args in firstOf (fileRows (a .s .now) (a .at) (a .first)) ≡ 0
-unrefused c = sym (c .before .refusal .ensures) ∙ c .if2 .left
-
-suited : (c : tie.Else2) → let a = c .before .before .before .before .args in Suited (a .s .now) (a .at)
-suited c =
-    let a = c .before .before .before .before .args in
-    passes (a .s .now) (a .at) (a .first) (unrefused c) .suited
+-- nothing is wrong with the record
+unharmed : (c : tie.Else2) → let a = c .before .before .before .before .args in firstOf (recordRows (a .s .now) (a .at)) ≡ 0
+unharmed c = sym (c .before .broken .ensures) ∙ c .if2 .left
 
 returns : tie.Need-returns
-returns c = sym (at-end _ _ _ (c .if1 .taken))
+returns c =
+    let a = c .before .before .args in
+    sym (at-end (a .s .now) (a .at) (a .first) (c .if1 .taken))
 
-refusal-requires : tie.Need-refusal-requires
-refusal-requires c κs = search needs
+broken-requires : tie.Need-broken-requires
+broken-requires c κs = search needs
 
 returns-2 : tie.Need-returns-2
 returns-2 c =
     let a = c .before .before .before .before .args in
-    sym (at-refusal (a .s .now) (a .at) (a .first) (c .before .before .if1 .left) (c .before .refusal .ensures) (c .if2 .taken))
+    sym (at-refusal (a .s .now) (a .at) (a .first) (c .before .before .if1 .left) (c .before .broken .ensures) (c .if2 .taken))
 
-event-at-requires : tie.Need-event-at-requires
-event-at-requires c κs = suited c
+shared-slice-read-kind-of : tie.Need-shared-slice-read-kind-of
+shared-slice-read-kind-of c = search needs
 
-add-t6 : tie.Need-add-t6
-add-t6 c = search needs
+kind-of-requires : tie.Need-kind-of-requires
+kind-of-requires c κs = search needs
 
-length-at-requires : tie.Need-length-at-requires
-length-at-requires c κs = let w = suited (c .before) in omega arith
+enum-known-found : tie.Need-enum-known-found
+enum-known-found c = search needs
 
-add-t9 : tie.Need-add-t9
-add-t9 c = search needs
+placed-requires : tie.Need-placed-requires
+placed-requires c κs =
+    let found = c .before in
+    let read = found .before .before in
+    let a = read .before .before .before .before .before .before .args in
+    whole (a .s .now) (a .at) (unharmed (read .before .before)) (sym (read .kind-of .ensures) ∙ found .found .given .1)
+
+enum-told : tie.Need-enum-told
+enum-told c = search needs
 
 returns-3 : tie.Need-returns-3
 returns-3 c =
-    let a = c .before .before .before .before .before .before .args in
-    sym (at-call (a .s .now) (a .at) (a .first) (c .before .before .before .before .if1 .left) (unrefused (c .before .before)) (c .before .event-at .ensures) (c .length-at .ensures .0))
+    let found = c .before .before in
+    let read = found .before .before in
+    let test = read .before .before in
+    let a = test .before .before .before .before .args in
+    c .placed .ensures ∙ sym (at-whole (a .s .now) (a .at) (a .first) (test .before .before .if1 .left) (unharmed test) (sym (read .kind-of .ensures) ∙ found .found .given .1))
+
+returns-4 : tie.Need-returns-4
+returns-4 c =
+    let read = c .before .before in
+    let a = read .before .before .before .before .before .before .args in
+    absurd (known (a .s .now) (a .at) (unharmed (read .before .before)) (sym (read .kind-of .ensures) ∙ c .enum-told .given .1))
 
 pub record-at-spec : {M : Type 1} → statement M
 record-at-spec =
     tie.close
     (tie.spec
     returns
-    refusal-requires
+    broken-requires
     returns-2
-    event-at-requires
-    add-t6
-    length-at-requires
-    add-t9
-    returns-3)
+    shared-slice-read-kind-of
+    kind-of-requires
+    enum-known-found
+    placed-requires
+    enum-told
+    returns-3
+    returns-4)

@@ -1,8 +1,7 @@
 -- Each event's call: what the manager did of it is the law book's step.
 use borrow.Author.Needs.{needs}
-use Rattle.rules.specs.Runs.{step}
-use Rattle.manager.specs.State.{view}
-use Rattle.replay.proofs.Calls.{was-read, did-read}
+use Rattle.rules.specs.declared.Kind.{Kind}
+use Rattle.replay.proofs.Calls.{did-read}
 use Rattle.replay.proofs.called.Statement.{statement}
 use Rattle.replay.proofs.called.Tie as tie
 use Rattle.replay.proofs.called.Reads as reads
@@ -23,106 +22,99 @@ enum-told : tie.Need-enum-told
 enum-told c = search needs
 
 shares-requires : tie.Need-shares-requires
-shares-requires c κs = was-read (c .before .before .before .pre .1) .inside
+shares-requires c κs = search needs
 
 open-requires : tie.Need-open-requires
 open-requires c κs = search needs
 
-enum-known-e : tie.Need-enum-known-e
-enum-known-e c = search needs
+enum-told-2 : tie.Need-enum-told-2
+enum-told-2 c = search needs
 
 grant-requires : tie.Need-grant-requires
 grant-requires c κs = search needs
 
-enum-known-e-2 : tie.Need-enum-known-e-2
-enum-known-e-2 c = search needs
+enum-told-3 : tie.Need-enum-told-3
+enum-told-3 c = search needs
 
 reads-requires : tie.Need-reads-requires
-reads-requires c κs = was-read (c .before .before .before .before .pre .1) .begins (c .before .e2 .given .1)
+reads-requires c κs = search needs
 
 writes-requires : tie.Need-writes-requires
-writes-requires c κs = was-read (c .before .before .before .before .before .pre .1) .begins (c .before .before .e2 .given .1)
+writes-requires c κs = search needs
 
 begin-requires : tie.Need-begin-requires
 begin-requires c κs = search needs
 
-enum-known-e-3 : tie.Need-enum-known-e-3
-enum-known-e-3 c = search needs
+enum-told-4 : tie.Need-enum-told-4
+enum-told-4 c = search needs
 
 finish-requires : tie.Need-finish-requires
 finish-requires c κs = search needs
 
-enum-known-e-4 : tie.Need-enum-known-e-4
-enum-known-e-4 c = search needs
+enum-told-5 : tie.Need-enum-told-5
+enum-told-5 c = search needs
 
 recheck-requires : tie.Need-recheck-requires
 recheck-requires c κs = search needs
 
-enum-known-e-5 : tie.Need-enum-known-e-5
-enum-known-e-5 c = search needs
+enum-told-6 : tie.Need-enum-told-6
+enum-told-6 c = search needs
 
 scan-requires : tie.Need-scan-requires
 scan-requires c κs = search needs
 
-enum-told-2 : tie.Need-enum-told-2
-enum-told-2 c = search needs
+enum-told-7 : tie.Need-enum-told-7
+enum-told-7 c = search needs
 
 pick-requires : tie.Need-pick-requires
 pick-requires c κs = search needs
 
-enum-known-e-6 : tie.Need-enum-known-e-6
-enum-known-e-6 c = search needs
+enum-told-8 : tie.Need-enum-told-8
+enum-told-8 c = search needs
 
 deliver-requires : tie.Need-deliver-requires
 deliver-requires c κs = search needs
 
 returns : tie.Need-returns
-unfolding step
 returns c =
     let s = c .before .before .before .before .before in
-    did-read (s .pre .1) (view (s .args .s)) _ (c .before .before .enum-told .given .1) (rw (c .before .shares .ensures) at (c .open .ensures))
+    did-read (s .pre .1) (s .args .s) Kind.Open (c .before .before .enum-told .given .1) (rw (c .before .shares .ensures .0) at (c .«open» .ensures))
 
 returns-2 : tie.Need-returns-2
-unfolding step
 returns-2 c =
-    let s = c .before .before .before .before .before in
-    did-read (s .pre .1) (view (s .args .s)) _ (c .before .before .e .given .1) (c .grant .ensures)
+    let s = c .before .before .before .before in
+    did-read (s .pre .1) (s .args .s) Kind.Grant (c .before .enum-told2 .given .1) (c .grant .ensures)
 
 returns-3 : tie.Need-returns-3
-unfolding step
 returns-3 c =
-    let s = c .before .before .before .before .before .before .before in
-    did-read (s .pre .1) (view (s .args .s)) _ (c .before .before .before .before .e2 .given .1) (rw (c .before .before .reads .ensures, c .before .writes .ensures) at (c .begin .ensures))
+    let reads = c .before .before in
+    let s = reads .before .before .before .before in
+    did-read (s .pre .1) (s .args .s) Kind.Begin (reads .before .enum-told3 .given .1) (rw (reads .reads .ensures .0, c .before .writes .ensures .0) at (c .begin .ensures))
 
 returns-4 : tie.Need-returns-4
-unfolding step
 returns-4 c =
-    let s = c .before .before .before .before .before in
-    did-read (s .pre .1) (view (s .args .s)) _ (c .before .before .e3 .given .1) (c .finish .ensures)
+    let s = c .before .before .before .before in
+    did-read (s .pre .1) (s .args .s) Kind.Finish (c .before .enum-told4 .given .1) (c .finish .ensures)
 
 returns-5 : tie.Need-returns-5
-unfolding step
 returns-5 c =
-    let s = c .before .before .before .before .before in
-    did-read (s .pre .1) (view (s .args .s)) _ (c .before .before .e4 .given .1) (c .recheck .ensures)
+    let s = c .before .before .before .before in
+    did-read (s .pre .1) (s .args .s) Kind.Recheck (c .before .enum-told5 .given .1) (c .recheck .ensures)
 
 returns-6 : tie.Need-returns-6
-unfolding step
 returns-6 c =
-    let s = c .before .before .before .before .before in
-    did-read (s .pre .1) (view (s .args .s)) _ (c .before .before .e5 .given .1) (c .scan .ensures)
+    let s = c .before .before .before .before in
+    did-read (s .pre .1) (s .args .s) Kind.Scan (c .before .enum-told6 .given .1) (c .scan .ensures)
 
 returns-7 : tie.Need-returns-7
-unfolding step
 returns-7 c =
     let s = c .before .before .before .before in
-    did-read (s .pre .1) (view (s .args .s)) _ (c .before .enum-told2 .given .1) (c .pick .ensures)
+    did-read (s .pre .1) (s .args .s) Kind.Pick (c .before .enum-told7 .given .1) (c .pick .ensures)
 
 returns-8 : tie.Need-returns-8
-unfolding step
 returns-8 c =
-    let s = c .before .before .before .before .before in
-    did-read (s .pre .1) (view (s .args .s)) _ (c .before .before .e6 .given .1) (c .deliver .ensures)
+    let s = c .before .before .before .before in
+    did-read (s .pre .1) (s .args .s) Kind.Deliver (c .before .enum-told8 .given .1) (c .deliver .ensures)
 
 pub called-spec : {M : Type 1} → statement M
 called-spec =
@@ -131,21 +123,21 @@ called-spec =
     enum-told
     shares-requires
     open-requires
-    enum-known-e
+    enum-told-2
     grant-requires
-    enum-known-e-2
+    enum-told-3
     reads-requires
     writes-requires
     begin-requires
-    enum-known-e-3
+    enum-told-4
     finish-requires
-    enum-known-e-4
+    enum-told-5
     recheck-requires
-    enum-known-e-5
+    enum-told-6
     scan-requires
-    enum-told-2
+    enum-told-7
     pick-requires
-    enum-known-e-6
+    enum-told-8
     deliver-requires
     returns
     returns-2

@@ -1,8 +1,6 @@
 -- The call with its line, the refusal's line, or the end: one law of `Steps` each.
 use borrow.Author.Needs.{needs}
-use mathlib.Core.Path.{sym, ap, _∙_}
-use Rattle.manager.specs.State.{view}
-use Rattle.replay.specs.Replay.{leftAfter}
+use mathlib.Core.Path.{sym, _∙_}
 use Rattle.replay.proofs.Stepping.{step-end, step-refused, step-called}
 use Rattle.replay.proofs.step.Statement.{statement}
 use Rattle.replay.proofs.step.Tie as tie
@@ -13,8 +11,6 @@ use Rattle.listing.proofs.line_of.Reads as line-of-reads
 use Rattle.replay.proofs.blank.Reads as blank-reads
 use Rattle.replay.proofs.called.Reads as called-reads
 use Rattle.replay.proofs.left_in.Reads as left-in-reads
-use Rattle.replay.proofs.name_of.Reads as name-of-reads
-use Rattle.replay.proofs.tenant_of.Reads as tenant-of-reads
 
 record-at-requires : tie.Need-record-at-requires
 record-at-requires c κs = search needs
@@ -28,14 +24,8 @@ called-requires c κs =
     let s = read .before .before in
     (s .pre, record { first = s .args .first; next = c .before .found .given .0 .1 .0; is = sym (read .record-at .ensures) ∙ c .before .found .given .1 })
 
-tenant-of-requires : tie.Need-tenant-of-requires
-tenant-of-requires c κs = search needs
-
 left-in-requires : tie.Need-left-in-requires
 left-in-requires c κs = search needs
-
-name-of-requires : tie.Need-name-of-requires
-name-of-requires c κs = search needs
 
 line-of-requires : tie.Need-line-of-requires
 line-of-requires c κs = search needs
@@ -54,12 +44,12 @@ blank-requires c κs = search needs
 
 returns : tie.Need-returns
 returns c =
-    let line = c .before .before in
-    let done = line .before .before .before in
+    let left = c .before in
+    let done = left .before .before in
     let f = done .before .before in
     let read = f .before .before in
     let s = read .before .before in
-    step-called (s .args .s) (s .args .bytes .now) (s .args .at) (s .args .first) (s .args .number) (sym (read .record-at .ensures) ∙ f .found .given .1) (done .called .ensures) (c .before .name-of .ensures) (line .left-in .ensures ∙ ap (leftAfter (view (done .called .result .state))) (line .before .tenant-of .ensures)) (c .line-of .ensures)
+    step-called (s .args .s) (s .args .bytes .now) (s .args .at) (s .args .first) (s .args .number) (sym (read .record-at .ensures) ∙ f .found .given .1) (done .called .ensures) (left .left-in .ensures) (c .line-of .ensures)
 
 returns-2 : tie.Need-returns-2
 returns-2 c =
@@ -81,9 +71,7 @@ step-spec =
     record-at-requires
     enum-known-found
     called-requires
-    tenant-of-requires
     left-in-requires
-    name-of-requires
     line-of-requires
     enum-known-found-2
     line-of-requires-2

@@ -1,7 +1,7 @@
 -- The serial is given and the price paid; the counters rise, tell the verdict, and the entry joins the back.
 use borrow.Author.Needs.{needs}
 use native.Mathlib.Omega.{arith}
-use Prim.Native.Nat.{ℕ, _+_, _<_}
+use Prim.Native.Nat.{ℕ, _+_, _≤_, _<_}
 use mathlib.Core.Path.{_≡_, sym, ap, subst, _∙_}
 use Rattle.rules.specs.Request.{Request}
 use Rattle.rules.specs.Table.{Meter as LawMeter, meterOf, spent, numbered, burn}
@@ -15,6 +15,7 @@ use lib.ListN.{length}
 use Rattle.rules.specs.Records.{WellFormed}
 use Rattle.rules.specs.Request.{requested, size, admitted}
 use Rattle.rules.specs.Calls.{joined, named}
+use Rattle.rules.specs.Sound.{Each}
 use Rattle.rules.proofs.Prices.{admission-price}
 use Rattle.rules.proofs.Room.{queue-room, sound-count}
 use Rattle.rules.proofs.Keeps.{sound-burn}
@@ -28,7 +29,7 @@ use Rattle.queue.specs.Queue.{requests, Holds}
 use Rattle.queue.proofs.Views.{Slots, requests-length}
 use Rattle.manager.proofs.Typed.{state-slots}
 use Rattle.manager.proofs.Entries.{joins-becomes}
-use Rattle.manager.proofs.Joining.{admitted-reads, admitted-writes, admitted-tenant, admitted-stands, joined-meters}
+use Rattle.manager.proofs.Joining.{admitted-reads, admitted-writes, admitted-tenant, records-small, admitted-stands, joined-meters}
 use Rattle.manager.proofs.Done.{tenant-done}
 use Rattle.manager.proofs.begin.admit.Statement.{statement}
 use Rattle.manager.proofs.begin.admit.Tie as tie
@@ -85,6 +86,10 @@ lists c = entry-lists (c .made .result) _ (c .made .ok)
 
 fit : (c : tie.After-made) → WellFormed (request (c .made .result) .reads) (request (c .made .result) .writes)
 fit c = subst (λ (r : Request). WellFormed (r .reads) (r .writes)) (sym (asks c)) (allowed (start c) .lists)
+
+-- the records that it names are bytes
+small : (c : tie.After-made) → Each (λ r. r ≤ 255) (start c .args .reads .now ++ start c .args .writes .now)
+small c = subst (λ (r : Request). Each (λ k. k ≤ 255) (r .reads ++ r .writes)) (asks c) (records-small (c .made .result) (lists c))
 
 -- the counters with its own count
 cx-raised : (c : tie.After-raised) → let made = of-raised c .before .before in Raised (start made .args .s .cx) (request (made .made .result) .writes) (c .raised .result)
@@ -204,7 +209,7 @@ returns c =
     let a = allowed s in
     let own = joins done in
     tenant-done t (s .args .who) _ (admission clause9 (wanted s)) (joined t e) (named e) (s .pre .1)
-    (sound-burn (begin-sound clause9 (s .pre .0 .table) _ _ _ _ a) (s .args .who) (admission clause9 (wanted s)) (a .tenant))
+    (sound-burn (begin-sound clause9 (s .pre .0 .table) _ _ _ _ (small made) a) (s .args .who) (admission clause9 (wanted s)) (a .tenant))
     (arrives (c .before))
     (c .named .ensures ∙ ap named (own .is))
     (sym (price-is (made .before .before)))

@@ -2,7 +2,7 @@
 use Prim.Native.Nat.{_<_}
 use mathlib.Core.Path.{sym}
 use Rattle.rules.specs.Prices.{clause9}
-use Rattle.rules.proofs.Costly.{charge-low, charge-high, charge-dry, charge-one}
+use Rattle.rules.proofs.Costly.{charge-low, charge-high, charge-dry, charge-one, costly-between}
 use Rattle.rules.proofs.Tests.{above-zero}
 use Rattle.manager.proofs.refusal.charge.Statement.{statement}
 use Rattle.manager.proofs.refusal.charge.Tie as tie
@@ -22,7 +22,7 @@ returns-4 : tie.Need-returns-4
 returns-4 c =
     let s = c .before .before .before in
     let wet : 0 < s .args .fuel = above-zero (s .args .fuel) (c .if3 .left) in
-    sym (charge-one _ _ (c .before .before .if1 .left) (c .before .if2 .left) wet)
+    sym (charge-one _ _ (costly-between _ (c .before .before .if1 .left) (c .before .if2 .left)) wet)
 
 pub charge-spec : {M : Type 1} → statement M
 charge-spec = tie.close (tie.spec returns returns-2 returns-3 returns-4)

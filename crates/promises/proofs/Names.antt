@@ -1,0 +1,218 @@
+-- A name is never given twice: over any run the serials of a tenant's admitted requests rise, no serial is taken back, and no
+-- table's queue has held a serial that was not given by then.
+use Prim.Native.Nat.{ℕ, zero, suc, _+_, _≤_, _<_}
+use mathlib.Core.Path.{_≡_, refl, sym, ap, subst, _∙_}
+use mathlib.Core.Bool.{Bool, true, false, _&&_, _||_, not, false≢true}
+use mathlib.Core.List.{List, [], _∷_, _++_, map, append-nil, append-assoc}
+use mathlib.Core.Logic.{⊎-elim}
+use native.Mathlib.Omega.{arith}
+use lib.Dec.{eqb}
+use lib.ListN.{getD, set}
+use borrow.Author.Tests.{eqb-true, not-true}
+use Rattle.rules.specs.Lists.{some, every}
+use Rattle.rules.specs.Request.{Request, nobody, isNamed}
+use Rattle.rules.specs.Table.{Table}
+use Rattle.rules.specs.Prices.{Prices}
+use Rattle.rules.specs.Calls.{openOf}
+use Rattle.rules.specs.Sound.{Each, InOrder, Fit, SoundAny, givenBy}
+use Rattle.rules.specs.Runs.{Call, Step, Run, step, isOpen, after, runOf}
+use Rattle.rules.proofs.Tests.{both, either}
+use Rattle.rules.proofs.Order.{each-map, each-none, each-without, each-last, order-last}
+use Rattle.rules.proofs.Sound.{step-any, open-sound}
+use Rattle.promises.specs.Fuel.{reached}
+use Rattle.promises.specs.Names.{Claim, claimOf, answered, admittedBy, admissions, sameName, AdmittedAt, MadeBefore, isQueued, OwnNames, TwoNames, NeverBack}
+use Rattle.promises.proofs.Runs.{made, any-run}
+use Rattle.promises.proofs.Changes.{Change, changed, Grown, grown, grown-twice}
+
+-- ---- the invariant
+abbrev Rise : Claim → Claim → Type 0
+Rise a b = a .tenant ≡ b .tenant → a .serial < b .serial
+
+-- an earlier table of the run is sound, and had given no more serials than the table now
+record Was (t u : Table) : Type 0 where
+  sound : SoundAny u
+  fewer : Grown u t
+
+record Book (t : Table) (steps : List Step) : Type 0 where
+  sound : SoundAny t
+  rise : InOrder Rise (admissions steps)
+  given : Each (λ k. k .serial ≤ givenBy t (k .tenant)) (admissions steps)
+  past : Each (Was t) (map (λ s. s .met) steps)
+
+opening : (shares : List ℕ) → Book (openOf shares .table) []
+unfolding admissions
+opening shares = record { sound = open-sound shares; rise = InOrder.none; given = Each.none; past = Each.none }
+
+-- ---- what a change of the queue keeps
+each-end : {A : Type 0} {P : A → Type 0} (xs : List A) {e : A} → Each P (xs ++ e ∷ []) → P e
+each-end [] (Each.also p h) = p
+each-end (x ∷ xs) (Each.also p h) = each-end xs h
+
+module _ {t : Table} where
+  change-rise : {added : List Claim} {q : List Request} (cs : List Claim) → Change t added q → Each (λ k. k .serial ≤ givenBy t (k .tenant)) cs → InOrder Rise cs → InOrder Rise (cs ++ added)
+  change-rise cs Change.same g h = rw (append-nil cs) h
+  change-rise cs (Change.joins e k) g h = order-last h (each-map (λ (x : Claim) (le : x .serial ≤ givenBy t (x .tenant)). λ (same : x .tenant ≡ e .tenant). let l : x .serial ≤ givenBy t (e .tenant) = rw same at le in omega (arith, k, l)) g)
+  change-rise cs (Change.leaves at) g h = rw (append-nil cs) h
+  change-rise cs (Change.changes at e k) g h = rw (append-nil cs) h
+
+  change-given : {added : List Claim} {q : List Request} (u : Table) (cs : List Claim) → Change t added q → Each (Fit (givenBy u)) q → Each (λ k. k .serial ≤ givenBy u (k .tenant)) cs → Each (λ k. k .serial ≤ givenBy u (k .tenant)) (cs ++ added)
+  change-given u cs Change.same f g = rw (append-nil cs) g
+  change-given u cs (Change.joins e k) f g = each-last g (each-end (t .queue) f .to-given)
+  change-given u cs (Change.leaves at) f g = rw (append-nil cs) g
+  change-given u cs (Change.changes at e k) f g = rw (append-nil cs) g
+
+module _ (p : Prices) where
+  keeps : (t : Table) (steps : List Step) (c : Call) → SoundAny t → isOpen c ≡ false → Book t steps → Book (step p t c .table) (made p t c ∷ steps)
+  unfolding admissions
+  keeps t steps c s shut b =
+      let u = step p t c .table in
+      let su : SoundAny u = step-any p s c in
+      let g : Grown t u = grown p t c shut in
+      let ch = changed p t c shut in
+      let cs = admissions steps in
+      let given : Each (λ k. k .serial ≤ givenBy u (k .tenant)) cs = each-map (λ (k : Claim) (le : k .serial ≤ givenBy t (k .tenant)). omega (arith, le, g .more (k .tenant))) (b .given) in
+      record {
+        sound = su;
+        rise = change-rise cs ch (b .given) (b .rise);
+        given = change-given u cs ch (su .entries) given;
+        past = Each.also (record { sound = s; fewer = g }) (each-map (λ w (was : Was t w). record { sound = was .sound; fewer = grown-twice (was .fewer) g }) (b .past));
+      }
+
+  book : (shares : List ℕ) (calls : List Call) → let r = reached p shares calls in Book (r .table) (r .steps)
+  book = any-run p Book opening keeps
+
+-- ---- the names differ
+differ : (a b : Claim) → Rise a b → sameName a b ≡ false
+differ a b r = go (sameName a b) refl
+  where
+    go : (t : Bool) → sameName a b ≡ t → sameName a b ≡ false
+    go true h =
+        let k = both (eqb (a .tenant) (b .tenant)) (eqb (a .serial) (b .serial)) h in
+        let serial : a .serial ≡ b .serial = eqb-true (a .serial) (b .serial) (k .1) in
+        let lt : a .serial < b .serial = r (eqb-true (a .tenant) (b .tenant) (k .0)) in
+        absurd (omega arith)
+    go false h = h
+
+order-each : {A : Type 0} {R S : A → A → Type 0} {xs : List A} → ((x y : A) → R x y → S x y) → InOrder R xs → InOrder S xs
+order-each f InOrder.none = InOrder.none
+order-each f (InOrder.also {x = x} k o) = InOrder.also (each-map (f x) k) (order-each f o)
+
+pub own-names : (p : Prices) → OwnNames p
+own-names p shares calls = order-each differ (book p shares calls .rise)
+
+-- ---- two steps of a run
+-- the first elements; and those before the last stand so to it
+each-init : {A : Type 0} {P : A → Type 0} (xs ys : List A) → Each P (xs ++ ys) → Each P xs
+each-init [] ys h = Each.none
+each-init (x ∷ xs) ys (Each.also p h) = Each.also p (each-init xs ys h)
+
+order-init : {A : Type 0} {R : A → A → Type 0} (xs ys : List A) → InOrder R (xs ++ ys) → InOrder R xs
+order-init [] ys o = InOrder.none
+order-init (x ∷ xs) ys (InOrder.also k o) = InOrder.also (each-init xs ys k) (order-init xs ys o)
+
+order-end : {A : Type 0} {R : A → A → Type 0} (xs : List A) {e : A} → InOrder R (xs ++ e ∷ []) → Each (λ x. R x e) xs
+order-end [] o = Each.none
+order-end (x ∷ xs) (InOrder.also k o) = Each.also (each-end xs k) (order-end xs o)
+
+admissions-append : (later steps : List Step) → admissions (later ++ steps) ≡ admissions steps ++ admissions later
+unfolding admissions
+admissions-append [] steps = sym (append-nil (admissions steps))
+admissions-append (s ∷ later) steps =
+    ap (λ (l : List Claim). l ++ admittedBy (s .call) (s .outcome .answer)) (admissions-append later steps) ∙ append-assoc (admissions steps) (admissions later) (admittedBy (s .call) (s .outcome .answer))
+
+admitted-is : (s : Step) (c : Claim) → AdmittedAt s c → admittedBy (s .call) (s .outcome .answer) ≡ c ∷ []
+admitted-is s c a = ap (λ (k : Call). admittedBy k (s .outcome .answer)) (a .call) ∙ ap (answered (record { reads = c .reads; writes = c .writes })) (a .answer)
+
+-- where the two stand in the list of admissions
+pair-at : {a b : Step} {x y : Claim} {steps : List Step} (m : MadeBefore a b steps) → AdmittedAt a x → AdmittedAt b y → admissions steps ≡ (((admissions (m .earlier) ++ x ∷ []) ++ admissions (m .between)) ++ y ∷ []) ++ admissions (m .later)
+unfolding admissions
+pair-at {a} {b} {x} {y} m ax by =
+    let inner : admissions (m .between ++ a ∷ m .earlier) ≡ (admissions (m .earlier) ++ x ∷ []) ++ admissions (m .between) =
+    admissions-append (m .between) (a ∷ m .earlier) ∙ ap (λ (l : List Claim). (admissions (m .earlier) ++ l) ++ admissions (m .between)) (admitted-is a x ax) in
+    ap admissions (m .is) ∙ admissions-append (m .later) (b ∷ (m .between ++ a ∷ m .earlier)) ∙
+    ap (λ (l : List Claim). (l ++ admittedBy (b .call) (b .outcome .answer)) ++ admissions (m .later)) inner ∙
+    ap (λ (l : List Claim). (((admissions (m .earlier) ++ x ∷ []) ++ admissions (m .between)) ++ l) ++ admissions (m .later)) (admitted-is b y by)
+
+pair-of : {R : Claim → Claim → Type 0} {a b : Step} {x y : Claim} {steps : List Step} → MadeBefore a b steps → AdmittedAt a x → AdmittedAt b y → InOrder R (admissions steps) → R x y
+pair-of {R} {a} {b} {x} {y} m ax by o =
+    let front = (admissions (m .earlier) ++ x ∷ []) ++ admissions (m .between) in
+    let k : InOrder R ((front ++ y ∷ []) ++ admissions (m .later)) = subst (InOrder R) (pair-at m ax by) o in
+    let to-y : Each (λ c. R c y) front = order-end front (order-init (front ++ y ∷ []) (admissions (m .later)) k) in
+    each-end (admissions (m .earlier)) (each-init (admissions (m .earlier) ++ x ∷ []) (admissions (m .between)) to-y)
+
+pub two-names : (p : Prices) → TwoNames p
+two-names p shares calls a b x y m ax by = pair-of m ax by (own-names p shares calls)
+
+-- ---- a name that has left
+-- the name's tenant and serial
+name-of : (who serial : ℕ) (e : Request) → isNamed who serial e ≡ true → (e .tenant ≡ who) × (e .serial ≡ serial)
+name-of who serial e h =
+    let k = both (eqb (e .tenant) who) (eqb (e .serial) serial) h in
+    (eqb-true (e .tenant) who (k .0), eqb-true (e .serial) serial (k .1))
+
+-- a new entry has not a name that was given
+fresh-name : (t : Table) (who serial : ℕ) (e : Request) → e .serial ≡ givenBy t (e .tenant) + 1 → serial ≤ givenBy t who → isNamed who serial e ≡ false
+fresh-name t who serial e new le = go (isNamed who serial e) refl
+  where
+    go : (b : Bool) → isNamed who serial e ≡ b → isNamed who serial e ≡ false
+    go true h =
+        let n = name-of who serial e h in
+        let k : e .serial ≡ givenBy t who + 1 = rw (n .0) at new in
+        absurd (omega (arith, k, le, n .1))
+    go false h = h
+
+-- an element is put that passes where the old one did
+each-changed : {P : Request → Type 0} {q : List Request} → Each P q → (at : ℕ) (e : Request) → (P (getD q at nobody) → P e) → Each P (set q at e)
+each-changed Each.none at e f = Each.none
+each-changed (Each.also p h) zero e f = Each.also (f p) h
+each-changed (Each.also p h) (suc at) e f = Each.also p (each-changed h at e f)
+
+change-away : {t : Table} {added : List Claim} {q : List Request} → Change t added q → (who serial : ℕ) → serial ≤ givenBy t who → Each (λ e. isNamed who serial e ≡ false) (t .queue) → Each (λ e. isNamed who serial e ≡ false) q
+change-away Change.same who serial le h = h
+change-away {t} (Change.joins e k) who serial le h = each-last h (fresh-name t who serial e k le)
+change-away (Change.leaves at) who serial le h = each-without at h
+change-away (Change.changes at e k) who serial le h = each-changed h at e (λ old. ap (λ (c : Claim). eqb (c .tenant) who && eqb (c .serial) serial) k ∙ old)
+
+-- no element passes the test
+none-some : {A : Type 0} (f : A → Bool) {xs : List A} → Each (λ x. f x ≡ false) xs → some f xs ≡ false
+unfolding some
+none-some f Each.none = refl
+none-some f (Each.also {x = x} {xs = xs} p h) = ap (λ (b : Bool). b || some f xs) p ∙ none-some f h
+
+-- an element that passes the test, and what holds of each
+found-in : {A : Type 0} {P : A → Type 0} (f : A → Bool) {xs : List A} → Each P xs → some f xs ≡ true → (x : A) × (f x ≡ true) × P x
+unfolding some
+found-in f Each.none e = absurd (false≢true e)
+found-in {A} {P} f (Each.also {x = x} {xs = xs} p h) e = ⊎-elim (λ (k : f x ≡ true). (x, k, p)) (λ (k : some f xs ≡ true). found-in f h k) (either (f x) (some f xs) e)
+
+queued-given : (who serial : ℕ) (u : Table) → SoundAny u → isQueued who serial u ≡ true → serial ≤ givenBy u who
+queued-given who serial u s h =
+    let w = found-in (isNamed who serial) (s .entries) h in
+    let n = name-of who serial (w .0) (w .1) in
+    let le : w .0 .serial ≤ givenBy u who = rw (n .0) at (w .2 .to-given) in
+    omega (arith, le, n .1)
+
+was-given : (who serial : ℕ) (t : Table) (steps : List Step) → Each (Was t) (map (λ s. s .met) steps) → some (λ s. isQueued who serial (s .met)) steps ≡ true → serial ≤ givenBy t who
+unfolding some
+was-given who serial t [] h e = absurd (false≢true e)
+was-given who serial t (s ∷ steps) (Each.also w h) e = ⊎-elim
+    (λ (k : isQueued who serial (s .met) ≡ true). omega (arith, queued-given who serial (s .met) (w .sound) k, w .fewer .more who))
+    (λ (k : some (λ (s : Step). isQueued who serial (s .met)) steps ≡ true). was-given who serial t steps h k)
+    (either (isQueued who serial (s .met)) (some (λ (s : Step). isQueued who serial (s .met)) steps) e)
+
+module _ (p : Prices) where
+  -- a name that is not in the queue, though its serial was given, does not come back
+  stays-away : (who serial : ℕ) (more : List Call) (r : Run) → SoundAny (r .table) → every (λ c. not (isOpen c)) more ≡ true → serial ≤ givenBy (r .table) who → Each (λ e. isNamed who serial e ≡ false) (r .table .queue) → isQueued who serial (runOf p r more .table) ≡ false
+  unfolding runOf after every
+  stays-away who serial [] r s shut le h = none-some (isNamed who serial) h
+  stays-away who serial (c ∷ more) r s shut le h =
+      let t = r .table in
+      let k = both (not (isOpen c)) (every (λ (c : Call). not (isOpen c)) more) shut in
+      let closed : isOpen c ≡ false = not-true (isOpen c) (k .0) in
+      stays-away who serial more (after p r c) (step-any p s c) (k .1) (omega (arith, le, grown p t c closed .more who)) (change-away (changed p t c closed) who serial le h)
+
+  pub never-back : NeverBack p
+  never-back shares calls more who serial left shut =
+      let r = reached p shares calls in
+      let b = book p shares calls in
+      stays-away who serial more r (b .sound) shut (was-given who serial (r .table) (r .steps) (b .past) (left .was)) (each-none (isNamed who serial) (r .table .queue) (left .gone))

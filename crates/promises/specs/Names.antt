@@ -1,0 +1,94 @@
+-- "serials given so far (at most 65,535, never given twice)": whom a run admitted, and under which names.
+use Prim.Native.Nat.{ℕ}
+use mathlib.Core.Path.{_≡_}
+use mathlib.Core.Bool.{Bool, true, false, _&&_, not}
+use mathlib.Core.List.{List, [], _∷_, _++_}
+use lib.Dec.{eqb}
+use Rattle.rules.specs.declared.Mode.{Mode}
+use Rattle.rules.specs.declared.Answer.{Answer}
+use Rattle.rules.specs.declared.Answer.the-variants.{Ok, Done, Still, Nothing, Refused, Named}
+use Rattle.rules.specs.Lists.{if_then_else_, some, every}
+use Rattle.rules.specs.Request.{Request, isNamed}
+use Rattle.rules.specs.Table.{Table}
+use Rattle.rules.specs.CallTable.{isRequest}
+use Rattle.rules.specs.Prices.{Prices}
+use Rattle.rules.specs.Sound.{InOrder}
+use Rattle.rules.specs.Runs.{Call, Begin, Step, Run, Lists, listsOf, roleOf, isOpen, runOf}
+use Rattle.promises.specs.Fuel.{reached}
+
+-- ---- whom a run admitted
+-- a request as it was admitted: what its entry keeps as long as it is queued, its name and its lists
+pub record Claim : Type 0 where
+  pub tenant : ℕ
+  pub serial : ℕ
+  pub reads : List ℕ
+  pub writes : List ℕ
+
+abbrev pub claimOf : Request → Claim
+claimOf e = record { tenant = e .tenant; serial = e .serial; reads = e .reads; writes = e .writes }
+
+-- a Begin that answers with a name has admitted its request under that name
+abbrev pub answered : Lists → Answer → List Claim
+answered l Ok = []
+answered l Done = []
+answered l Still = []
+answered l Nothing = []
+answered l (Refused number) = []
+answered l (Named mode tenant serial) = record { tenant = tenant; serial = serial; reads = l .reads; writes = l .writes } ∷ []
+
+abbrev pub admittedBy : Call → Answer → List Claim
+admittedBy c answer = if isRequest (roleOf c) then answered (listsOf c) answer else []
+
+-- all that the steps admitted, the earliest first (a run's steps stand the latest first)
+unfoldable pub admissions : List Step → List Claim
+admissions [] = []
+admissions (s ∷ earlier) = admissions earlier ++ admittedBy (s .call) (s .outcome .answer)
+
+-- ---- "never given twice": of each two requests that a run admitted, the names differ
+abbrev pub sameName : Claim → Claim → Bool
+sameName a b = eqb (a .tenant) (b .tenant) && eqb (a .serial) (b .serial)
+
+abbrev pub NamesDiffer : List Step → Type 0
+NamesDiffer steps = InOrder (λ a b. sameName a b ≡ false) (admissions steps)
+
+abbrev pub OwnNames : Prices → Type 0
+OwnNames p =
+    (shares : List ℕ) (calls : List Call) →
+    NamesDiffer (reached p shares calls .steps)
+
+-- the same told of two Begins of a run
+pub record AdmittedAt (s : Step) (c : Claim) : Type 0 where
+  pub awaited : ℕ
+  pub mode : Mode
+  pub call : s .call ≡ Begin (c .tenant) awaited (c .reads) (c .writes)
+  pub answer : s .outcome .answer ≡ Named mode (c .tenant) (c .serial)
+
+-- step a was made before step b (the latest stands first)
+pub record MadeBefore (a b : Step) (steps : List Step) : Type 0 where
+  pub later : List Step
+  pub between : List Step
+  pub earlier : List Step
+  pub is : steps ≡ later ++ b ∷ (between ++ a ∷ earlier)
+
+abbrev pub TwoNames : Prices → Type 0
+TwoNames p =
+    (shares : List ℕ) (calls : List Call) (a b : Step) (x y : Claim) →
+    MadeBefore a b (reached p shares calls .steps) →
+    AdmittedAt a x →
+    AdmittedAt b y →
+    sameName x y ≡ false
+
+-- ---- and a name that was in the queue and has left does not come back, by any further calls up to the next Open
+abbrev pub isQueued : ℕ → ℕ → Table → Bool
+isQueued who serial t = some (isNamed who serial) (t .queue)
+
+pub record HasLeft (who serial : ℕ) (r : Run) : Type 0 where
+  pub was : some (λ s. isQueued who serial (s .met)) (r .steps) ≡ true
+  pub gone : isQueued who serial (r .table) ≡ false
+
+abbrev pub NeverBack : Prices → Type 0
+NeverBack p =
+    (shares : List ℕ) (calls more : List Call) (who serial : ℕ) →
+    HasLeft who serial (reached p shares calls) →
+    every (λ c. not (isOpen c)) more ≡ true →
+    isQueued who serial (runOf p (reached p shares calls) more .table) ≡ false
