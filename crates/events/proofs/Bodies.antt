@@ -1,19 +1,18 @@
 -- The body of a whole record: how long it is, and what its bytes say, by their places in the file.
 use Prim.Native.Nat.{ℕ, _+_, _-_, _≤_, _<_}
-use mathlib.Core.Path.{_≡_, refl, ap, _∙_}
+use mathlib.Core.Path.{_≡_, ap, _∙_}
 use mathlib.Core.Bool.{true}
 use mathlib.Core.List.{List}
 use native.Mathlib.Omega.{arith}
-use lib.Dec.{eqb, leb}
-use lib.ListN.{length, take, drop}
+use lib.Dec.{leb}
+use lib.ListN.{take, drop}
 use lib.Seq.{take-take}
 use borrow.Author.Tests.{eqb-true, leb-true}
 use Rattle.rules.specs.declared.Kind.{Kind}
-use Rattle.rules.specs.declared.Event.{Event}
 use Rattle.rules.specs.CallTable.{Body, bytes, lists, rowOf}
 use Rattle.rules.specs.Runs.{event}
 use Rattle.rules.proofs.Tests.{both}
-use Rattle.events.specs.Events.{byteAt, twoAt, fourAt, lengthAt, bodyAt, nextAt, countIn, fits, Whole}
+use Rattle.events.specs.Events.{byteAt, twoAt, fourAt, lengthAt, bodyAt, countIn, fits, Whole}
 use Rattle.events.proofs.Parts.{byte-of-part, two-of-part, four-of-part, rest-of-part, third-byte}
 
 pub same-body : {k kind : Kind} → k ≡ kind → rowOf k .body ≡ rowOf kind .body

@@ -5,8 +5,8 @@ use mathlib.Core.List.{List, [], _∷_}
 use native.Mathlib.Nat.{zero-add, suc-add}
 use native.Mathlib.Omega.{arith}
 use lib.ListN.{take, drop, length-take, List·getD-eq-default}
-use lib.Seq.{getD-take, getD-drop, drop-drop, take-take, take-nil}
-use Rattle.events.specs.Events.{byteAt, twoAt, fourAt, lengthAt, bodyAt, countIn}
+use lib.Seq.{getD-take, getD-drop, drop-drop, take-nil}
+use Rattle.events.specs.Events.{byteAt, twoAt, fourAt, countIn}
 
 -- ---- a part of a part
 drop-take : (m n : ℕ) (l : List ℕ) → drop m (take (m + n) l) ≡ take n (drop m l)

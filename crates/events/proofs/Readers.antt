@@ -5,7 +5,7 @@ use mathlib.Core.Bool.{true, false}
 use mathlib.Core.List.{List}
 use lib.ListN.{length}
 use Rattle.events.specs.Events.{byteAt, lengthAt, nextAt, standing, opens, hasLists, part, sharesPart, readsPart, writesPart}
-use Rattle.events.proofs.Rows.{Listed, opening, listed}
+use Rattle.events.proofs.Rows.{opening, listed}
 use Rattle.events.proofs.Bodies.{has-head, has-reads}
 
 module _ (file : List ℕ) (at : ℕ) where

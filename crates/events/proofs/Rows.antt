@@ -1,21 +1,21 @@
 -- The rows of a record's refusals: which number each way gives, and what no refusal means.
 use Prim.Native.Nat.{ℕ, _+_, _≤_, _<_}
-use mathlib.Core.Path.{_≡_, refl, sym, ap, _∙_}
+use mathlib.Core.Path.{_≡_, refl, sym, _∙_}
 use mathlib.Core.Bool.{Bool, true, false, not}
 use mathlib.Core.List.{List, [], _∷_, _++_}
 use native.Mathlib.Omega.{arith}
-use lib.Dec.{eqb, ltb}
+use lib.Dec.{eqb}
 use lib.ListN.{length}
 use borrow.Author.Tests.{lt-ltb, le-ltb, ltb-false, eq-eqb, eqb-true, ne-eqb, not-true, not-false}
 use Rattle.rules.specs.declared.Kind.{Kind}
 use Rattle.rules.specs.Lists.{if_then_else_, every}
 use Rattle.rules.specs.CallTable.{Body, bytes, lists, rowOf, isOpening}
-use Rattle.rules.specs.Refusals.{Row, _gives_, firstOf}
+use Rattle.rules.specs.Refusals.{Row, firstOf}
 use Rattle.rules.proofs.Tests.{both, if-cases}
 use Rattle.rules.proofs.Refusals.{pass}
 use Rattle.events.specs.declared.Tagged.{Tagged}
 use Rattle.events.specs.declared.Tagged.the-variants.{Known, Unknown}
-use Rattle.events.specs.Events.{tagAt, lengthAt, bodyAt, nextAt, countIn, isTag, kindOf, fits, suits, misplaced, bodyRows, recordRows, fileRows, standing, opens, isLists, hasLists, Whole}
+use Rattle.events.specs.Events.{tagAt, lengthAt, bodyAt, nextAt, countIn, isTag, kindOf, fits, misplaced, bodyRows, recordRows, fileRows, standing, opens, isLists, hasLists, Whole}
 use Rattle.events.proofs.Tags.{known-tag, unknown-tag}
 
 module _ (file : List ℕ) (at : ℕ) where

@@ -1,5 +1,4 @@
 -- From the law book to the code: a run of the real calls has the answers, burnt counts and views of the law book's run.
-use Prim.Native.Nat.{ℕ}
 use mathlib.Core.Path.{_≡_, refl, sym, ap, _∙_}
 use mathlib.Core.Bool.{Bool, true, false}
 use mathlib.Core.List.{List, [], _∷_, map}

@@ -19,7 +19,6 @@ use Rattle.queue.specs.Queue.{requests}
 use Rattle.queue.proofs.Views.{requests-length}
 use Rattle.manager.specs.declared.State.{State}
 use Rattle.manager.specs.declared.Outcome.{Outcome}
-use Rattle.manager.specs.State.{view}
 use Rattle.manager.specs.Tight.{SoundValue, ViewTells, Allowed, OneResult}
 
 -- ---- the meters, read back from the table's

@@ -1,14 +1,14 @@
 -- Promises 5 and 8: who may join does, a Free entry may leave on a dry tank, and a Blocked one at the front may run.
 use Prim.Native.Nat.{ℕ}
 use mathlib.Core.Path.{_≡_, refl}
-use mathlib.Core.Bool.{true, false}
+use mathlib.Core.Bool.{false}
 use native.Mathlib.Omega.{arith}
 use lib.Dec.{ltb}
 use Rattle.rules.specs.declared.Mode.{Mode}
-use Rattle.rules.specs.Request.{size, isFree, isBlocked, promoted}
-use Rattle.rules.specs.Table.{Table, isTenant}
+use Rattle.rules.specs.Request.{size, isBlocked, promoted}
+use Rattle.rules.specs.Table.{Table}
 use Rattle.rules.specs.Prices.{Prices}
-use Rattle.rules.specs.Refusals.{firstOf, isAbsent, entryOf, finishRows}
+use Rattle.rules.specs.Refusals.{firstOf, finishRows}
 use Rattle.rules.specs.Calls.{asked, finishOf, pickOf}
 use Rattle.rules.proofs.Tests.{and-false, if-either}
 use Rattle.rules.proofs.Admission.{Admissible, begin-admits}

@@ -23,7 +23,6 @@ use Rattle.rules.specs.Calls.{Outcome, named, beginOf, finishOf, recheckOf, sca
 use Rattle.rules.specs.Runs.{Run, runOf, after, step, number}
 use Rattle.rules.specs.Runs.Call.{Scan}
 use Rattle.rules.proofs.Tests.{and-false, if-either, if-cases}
-use Rattle.rules.proofs.Lists.{count-le}
 use Rattle.rules.proofs.Meters.{Sixteen, meter-own, meter-with, sixteen-with}
 use Rattle.rules.proofs.Admission.{Admissible, begin-admits}
 use Rattle.promises.specs.Bench.{TenExamples, Tenant, Spare, SpareTwo, own, entry, idle, twelveLines, afterLine, begins, reader, readerThen, left}

@@ -7,9 +7,9 @@ use mathlib.Core.Bool.{Bool, true, false, _&&_, not, true≢false, false≢true}
 use mathlib.Core.List.{List, [], _∷_}
 use native.Mathlib.Nat.{not-suc-le-zero, le-of-suc-le-suc}
 use native.Mathlib.Omega.{arith}
-use lib.Dec.{eqb, leb}
+use lib.Dec.{eqb}
 use lib.ListN.{length, getD, set}
-use borrow.Author.Tests.{eqb-true, ne-eqb, leb-true, leb-false}
+use borrow.Author.Tests.{eqb-true, ne-eqb, leb-false}
 use Rattle.rules.specs.declared.Answer.{Answer}
 use Rattle.rules.specs.Lists.{if_then_else_, countIf, total, before}
 use Rattle.rules.specs.Request.{Request, nobody, size, conflictsAny, isNamed, promoted, admitted, delivered}

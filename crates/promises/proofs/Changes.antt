@@ -5,8 +5,7 @@ use mathlib.Core.Bool.{Bool, true, false, true≢false}
 use mathlib.Core.List.{List, [], _∷_, _++_}
 use native.Mathlib.Omega.{arith}
 use lib.Dec.{eqb}
-use lib.ListN.{length, getD, set}
-use Rattle.rules.specs.declared.Answer.{Answer}
+use lib.ListN.{getD, set}
 use Rattle.rules.specs.declared.Answer.the-variants.{Refused}
 use Rattle.rules.specs.Lists.{if_then_else_}
 use Rattle.rules.specs.Request.{Request, nobody, conflictsAny, promoted, admitted, delivered}
@@ -15,7 +14,7 @@ use Rattle.rules.specs.Prices.{Prices}
 use Rattle.rules.specs.Refusals.{firstOf, standsAt, entryOf, beginRows, finishRows, recheckRows, scanRows, deliverRows, grantRows}
 use Rattle.rules.specs.Counters.{cx, cs, alone}
 use Rattle.rules.specs.Scan.{End, found, nothing, short}
-use Rattle.rules.specs.Calls.{named, asked, joined, withoutEntry, withEntry, found-table, search, pickEnd, beginOf, finishOf, recheckOf, scanOf, grantOf, pickOf, deliverOf}
+use Rattle.rules.specs.Calls.{named, asked, joined, withoutEntry, found-table, search, pickEnd, beginOf, finishOf, recheckOf, scanOf, grantOf, pickOf, deliverOf}
 use Rattle.rules.specs.Sound.{givenBy}
 use Rattle.rules.specs.Runs.{Call, step, isOpen}
 use Rattle.rules.specs.Runs.Call.{Begin, Finish, Recheck, Scan, Open, Grant, Pick, Deliver}

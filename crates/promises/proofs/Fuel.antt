@@ -17,7 +17,7 @@ use Rattle.rules.specs.Prices.{Prices, admission, searching}
 use Rattle.rules.specs.Refusals.{firstOf, entryOf, beginRows, finishRows, recheckRows, scanRows, deliverRows, grantRows, openRows}
 use Rattle.rules.specs.Counters.{cx, cs, alone}
 use Rattle.rules.specs.Scan.{End, found, nothing, short}
-use Rattle.rules.specs.Calls.{Outcome, tenantCall, hostCall, asked, joined, found-table, found-answer, search, pickEnd, beginOf, finishOf, recheckOf, scanOf, openOf, grantOf, pickOf, deliverOf}
+use Rattle.rules.specs.Calls.{Outcome, tenantCall, hostCall, asked, joined, found-table, search, pickEnd, beginOf, finishOf, recheckOf, scanOf, openOf, grantOf, pickOf, deliverOf}
 use Rattle.rules.specs.Said.{said}
 use Rattle.rules.specs.Sound.{SoundAny}
 use Rattle.rules.specs.Runs.{Call, step, eventOf, number, callerOf, priceOf, isOpen, burntBy, pricesBy, grantedTo}

@@ -20,7 +20,7 @@ use Rattle.rules.proofs.Tests.{both, either}
 use Rattle.rules.proofs.Order.{each-map, each-none, each-without, each-last, order-last}
 use Rattle.rules.proofs.Sound.{step-any, open-sound}
 use Rattle.promises.specs.Fuel.{reached}
-use Rattle.promises.specs.Names.{Claim, claimOf, answered, admittedBy, admissions, sameName, AdmittedAt, MadeBefore, isQueued, OwnNames, TwoNames, NeverBack}
+use Rattle.promises.specs.Names.{Claim, answered, admittedBy, admissions, sameName, AdmittedAt, MadeBefore, isQueued, OwnNames, TwoNames, NeverBack}
 use Rattle.promises.proofs.Runs.{made, any-run}
 use Rattle.promises.proofs.Changes.{Change, changed, Grown, grown, grown-twice}
 

@@ -5,9 +5,9 @@ use mathlib.Core.Path.{_≡_, refl, subst, _∙_}
 use mathlib.Core.Bool.{Bool, true, false, _&&_, _||_, not, true≢false}
 use mathlib.Core.List.{List, [], _∷_}
 use native.Mathlib.Omega.{arith}
-use lib.Dec.{eqb, ltb, leb}
+use lib.Dec.{eqb, ltb}
 use lib.ListN.{length, getD, set, replicate}
-use borrow.Author.Tests.{leb-true, eqb-false, not-true, not-false}
+use borrow.Author.Tests.{eqb-false, not-true, not-false}
 use Rattle.rules.specs.declared.Answer.{Answer}
 use Rattle.rules.specs.declared.Answer.the-variants.{Ok, Still, Refused}
 use Rattle.rules.specs.Lists.{if_then_else_, some, every, total}

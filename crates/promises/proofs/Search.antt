@@ -27,7 +27,7 @@ use Rattle.rules.proofs.Order.{each-map, each-take}
 use Rattle.rules.proofs.Room.{sound-count}
 use Rattle.rules.proofs.Walks.{walk-stops}
 use Rattle.promises.specs.Fuel.{Fair, fuelOf}
-use Rattle.promises.specs.Searches.{FirstReady, NoneReady, Promoting, LookedAtAll, CutShort, SearchPrice, SearchMost, SearchPromotes, SearchEnds, SearchNothing, SearchNames, SearchCut}
+use Rattle.promises.specs.Searches.{FirstReady, Promoting, LookedAtAll, CutShort, SearchPrice, SearchMost, SearchPromotes, SearchEnds, SearchNothing, SearchNames, SearchCut}
 use Rattle.promises.proofs.Refusals.{scan-cases}
 
 -- what cannot be

@@ -1,7 +1,6 @@
 -- A turn for each entry that is queued.
 use borrow.Author.Needs.{needs}
 use Prim.Native.Nat.{_-_, _≤_}
-use native.Mathlib.Omega.{arith}
 use Rattle.manager.specs.State.{Sound}
 use Rattle.direct.proofs.verdicts.Statement.{statement}
 use Rattle.direct.proofs.verdicts.Tie as tie

@@ -1,6 +1,6 @@
 -- By the kind: each arm's bytes are in the file, since the length suits the kind, and they are the call's.
 use borrow.Author.Needs.{needs}
-use Prim.Native.Nat.{ℕ, _+_}
+use Prim.Native.Nat.{_+_}
 use mathlib.Core.Path.{refl, sym, ap, _∙_}
 use native.Mathlib.Omega.{arith}
 use Rattle.rules.specs.Runs.{event}

@@ -3,7 +3,7 @@ use borrow.Author.Needs.{needs}
 use mathlib.Core.Path.{_≡_, sym, _∙_}
 use Rattle.rules.specs.Refusals.{firstOf}
 use Rattle.events.specs.Events.{recordRows}
-use Rattle.events.proofs.Rows.{unbroken, whole, known}
+use Rattle.events.proofs.Rows.{whole, known}
 use Rattle.events.proofs.Answers.{at-end, at-refusal, at-whole}
 use Rattle.events.proofs.record_at.Statement.{statement}
 use Rattle.events.proofs.record_at.Tie as tie

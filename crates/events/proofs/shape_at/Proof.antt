@@ -1,9 +1,9 @@
 -- Nothing stands where the record is broken; else its kind's row.
 use borrow.Author.Needs.{needs}
-use mathlib.Core.Path.{_≡_, refl, sym, ap, _∙_}
+use mathlib.Core.Path.{_≡_, sym, ap, _∙_}
 use native.Mathlib.Omega.{arith}
 use Rattle.rules.specs.Refusals.{firstOf}
-use Rattle.events.specs.Events.{recordRows, standing, opens, hasLists}
+use Rattle.events.specs.Events.{recordRows, opens, hasLists}
 use Rattle.events.proofs.Rows.{unbroken, stands, stands-not}
 use Rattle.events.proofs.shape_at.Statement.{statement}
 use Rattle.events.proofs.shape_at.Tie as tie

@@ -1,0 +1,43 @@
+-- What the promises say of the law book's runs, they say of the real ones, which are those seen through the view.
+use mathlib.Core.Path.{_≡_, sym, ap, subst, _∙_}
+use mathlib.Core.Bool.{false}
+use mathlib.Core.List.{List}
+use Rattle.rules.specs.Prices.{clause9}
+use Rattle.rules.specs.Sound.{Each}
+use Rattle.rules.specs.Runs.{Call, Run, isOpen, runOf}
+use Rattle.rules.proofs.Tests.{if-either}
+use Rattle.rules.proofs.Order.{each-map}
+use Rattle.promises.specs.Fuel.{PricesPaid, Balanced, Counted}
+use Rattle.promises.specs.Names.{NamesDiffer, HasLeft, isQueued}
+use Rattle.promises.specs.Promises.{Promises}
+use Rattle.promises.proofs.Promises.{at-clause9}
+use Rattle.manager.specs.declared.Outcome.{Outcome}
+use Rattle.manager.specs.State.{Sound}
+use Rattle.manager.specs.Runs.{CodeRun, Ran, uncalled, called, seenRun}
+use Rattle.manager.proofs.Runs.{ran-run, code-runs-faithfully}
+use Rattle.demands.specs.OfCalls.{Made}
+use Rattle.demands.specs.OfRuns.{EveryRun}
+use Rattle.demands.proofs.OfCalls.{every-call}
+
+-- each step of a run is a real call on a sound state
+ran-made : {run last : CodeRun} {cs : List Call} {rs : List Outcome} → Ran run cs rs last → Sound (run .state) → Each Made (run .steps) → Each Made (last .steps)
+ran-made uncalled h all = all
+ran-made {run} (called c r d more) h all =
+    ran-made more (d .sound) (if-either (Each Made) (isOpen c) Each.none (Each.also (record { sound = h; did = d }) all))
+
+pub every-run : EveryRun
+every-run shares first cs rs last real =
+    let faithful = code-runs-faithfully shares first cs rs last real in
+    let promised : Promises clause9 = at-clause9 .all in
+    let of : (P : Run → Type 0) → P (runOf clause9 _ cs) → P (seenRun last) = λ P h. subst P (faithful .run) h in
+    record {
+      calls = each-map every-call (ran-made (real .calls) (faithful .first-sound) Each.none);
+      sound = faithful .last-sound;
+      burnt = λ who. of (PricesPaid clause9 who) (promised .burns-prices shares cs who);
+      balance = λ who tenant. of (Balanced who) (promised .balance shares cs who tenant);
+      not-dry = λ who tenant. of (Counted who) (promised .not-dry shares cs who tenant);
+      names = of (λ r. NamesDiffer (r .steps)) (promised .own-names shares cs);
+      names-stay-away = λ who serial more outcomes end left shut ran.
+          let law = of (λ r. HasLeft who serial r → isQueued who serial (runOf clause9 r more .table) ≡ false) (λ h. promised .never-back shares cs more who serial h shut) in
+          ap (λ (r : Run). isQueued who serial (r .table)) (sym (ran-run ran)) ∙ law left;
+    }

@@ -1,0 +1,195 @@
+-- The demands, of one real call: a sound state was given to it, and its outcome is one that its contract allows. Each field is a
+-- sentence of the three demands, said of the code's own states and outcomes; `seen` is the outcome with its state seen as a table.
+use Prim.Native.Nat.{ℕ, _+_, _≤_, _<_}
+use mathlib.Core.Path.{_≡_}
+use mathlib.Core.Bool.{true, false}
+use mathlib.Core.List.{List}
+use lib.Dec.{eqb}
+use lib.ListN.{take}
+use Rattle.rules.specs.declared.Mode.{Mode}
+use Rattle.rules.specs.declared.Answer.the-variants.{Nothing, Refused, Named}
+use Rattle.rules.specs.Lists.{total}
+use Rattle.rules.specs.Request.{Request}
+use Rattle.rules.specs.Table.{Table, isTenant, meterOf, placesOf}
+use Rattle.rules.specs.Prices.{clause9, pricesOf, searching}
+use Rattle.rules.specs.Counters.{cx, cs}
+use Rattle.rules.specs.Calls.{Outcome as LawOutcome, asked, search}
+use Rattle.rules.specs.Runs.{step, roleOf, callerOf, isOpen, number}
+use Rattle.rules.specs.Runs.Call.{Begin, Finish, Scan, Open, Pick}
+use Rattle.promises.specs.Fuel.{fuelOf, recordsIn, tableCharge, Costs9, Pays, Gains}
+use Rattle.promises.specs.Refused.{RefusedOpen}
+use Rattle.promises.specs.Searches.{FirstReady, Promoting, LookedAtAll, CutShort}
+use Rattle.promises.specs.Places.{MayJoin, Joins, MayLeave, Leaves, BlockedFront, FrontRuns}
+use Rattle.counters.specs.Counters.{at}
+use Rattle.queue.specs.Queue.{requests}
+use Rattle.manager.specs.declared.State.{State}
+use Rattle.manager.specs.State.{view, Sound}
+use Rattle.manager.specs.Runs.{CodeStep, DidCall, seen}
+
+pub record Made (s : CodeStep) : Type 0 where
+  pub sound : Sound (s .met)
+  pub did : DidCall (s .met) (s .call) (s .outcome)
+
+-- the table that the call met, and what the law book sees of its outcome
+abbrev pub tableOf : CodeStep → Table
+tableOf s = view (s .met)
+
+abbrev pub outcomeOf : CodeStep → LawOutcome
+outcomeOf s = seen (s .outcome)
+
+-- ---- demand 1: "A refusal carries its number from the table, changes no counter, entry or place, and burns exactly the fuel
+-- stated there"
+pub record Untouched (a b : State) : Type 0 where
+  pub exclusive : (r : ℕ) → r < 256 → at (b .cx) r ≡ at (a .cx) r
+  pub shared : (r : ℕ) → r < 256 → at (b .cs) r ≡ at (a .cs) r
+  pub entries : requests (b .queue) ≡ requests (a .queue)
+  pub places : (who : ℕ) → placesOf (requests (b .queue)) who ≡ placesOf (requests (a .queue)) who
+  pub serials : (who : ℕ) → meterOf (view b) who .serials ≡ meterOf (view a) who .serials
+  pub shares : (who : ℕ) → meterOf (view b) who .share ≡ meterOf (view a) who .share
+
+-- 1 for a charged number, and what a search cut short had burnt
+abbrev pub stated : CodeStep → ℕ
+stated s =
+    let t = tableOf s in
+    let walked = searching clause9 (search clause9 t (callerOf (s .call)) .looked) in
+    tableCharge 1 walked (roleOf (s .call)) (number (outcomeOf s))
+
+pub record RefusedCall (s : CodeStep) : Type 0 where
+  pub state : Untouched (s .met) (s .outcome .state)
+  pub burnt : s .outcome .burnt ≡ stated s
+
+abbrev pub Refusals : CodeStep → Type 0
+Refusals s =
+    isOpen (s .call) ≡ false →
+    eqb (number (outcomeOf s)) 0 ≡ false →
+    RefusedCall s
+
+abbrev pub RefusedOpens : CodeStep → Type 0
+RefusedOpens s =
+    (shares : List ℕ) →
+    s .call ≡ Open shares →
+    eqb (number (outcomeOf s)) 0 ≡ false →
+    RefusedOpen (outcomeOf s)
+
+-- ---- demand 2: "After every call the answer, queue, states and counters are those that the VLL rules give"
+pub record ByTheRules (s : CodeStep) : Type 0 where
+  pub outcome : outcomeOf s ≡ step (pricesOf (tableOf s)) (tableOf s) (s .call)
+  pub exclusive : (r : ℕ) → r < 256 → at (s .outcome .state .cx) r ≡ cx (requests (s .outcome .state .queue)) r
+  pub shared : (r : ℕ) → r < 256 → at (s .outcome .state .cs) r ≡ cs (requests (s .outcome .state .queue)) r
+
+-- "A search with fuel to finish promotes the caller's first blocked request that conflicts with nothing ahead of it"
+abbrev pub SearchPromotes : CodeStep → Type 0
+SearchPromotes s =
+    (who at : ℕ) →
+    let t = tableOf s in
+    s .call ≡ Scan who →
+    isTenant who ≡ true →
+    FirstReady who (t .queue) at →
+    searching clause9 (take (at + 1) (t .queue)) ≤ fuelOf t who →
+    Promoting clause9 who t at (outcomeOf s)
+
+-- whatever the fuel, it promotes no other
+abbrev pub SearchNames : CodeStep → Type 0
+SearchNames s =
+    (who : ℕ) (mode : Mode) (tenant serial : ℕ) →
+    s .call ≡ Scan who →
+    s .outcome .answer ≡ Named mode tenant serial →
+    (at : ℕ) × Promoting clause9 who (tableOf s) at (outcomeOf s)
+
+-- "and reports none only if there is none"; it is cut short only where the fuel does not pay
+abbrev pub SearchReportsNone : CodeStep → Type 0
+SearchReportsNone s =
+    (who : ℕ) →
+    s .call ≡ Scan who →
+    s .outcome .answer ≡ Nothing →
+    LookedAtAll clause9 who (tableOf s) (outcomeOf s)
+
+abbrev pub SearchCut : CodeStep → Type 0
+SearchCut s =
+    (who : ℕ) →
+    s .call ≡ Scan who →
+    s .outcome .answer ≡ Refused 9 →
+    (at : ℕ) × CutShort clause9 who (tableOf s) at (outcomeOf s)
+
+-- ---- demand 3: the price of a call, which its caller's fuel pays and no other's
+abbrev pub OwnFuel : CodeStep → Type 0
+OwnFuel s =
+    (who : ℕ) →
+    isTenant who ≡ true →
+    eqb (callerOf (s .call)) who ≡ true →
+    Pays (tableOf s) who (outcomeOf s)
+
+abbrev pub OtherFuel : CodeStep → Type 0
+OtherFuel s =
+    (who : ℕ) →
+    isTenant who ≡ true →
+    isOpen (s .call) ≡ false →
+    eqb (callerOf (s .call)) who ≡ false →
+    Gains (tableOf s) who (s .call) (outcomeOf s)
+
+-- "A search costs 1 plus, for each entry looked at, 1 plus its records: at most 1,089"
+abbrev pub SearchCosts : CodeStep → Type 0
+SearchCosts s =
+    (who : ℕ) →
+    let t = tableOf s in
+    s .call ≡ Scan who →
+    isTenant who ≡ true →
+    0 < fuelOf t who →
+    s .outcome .burnt ≡ 1 + total (λ e. 1 + recordsIn e) (search clause9 t who .looked)
+
+abbrev pub SearchAtMost : CodeStep → Type 0
+SearchAtMost s =
+    (who : ℕ) →
+    s .call ≡ Scan who →
+    s .outcome .burnt ≤ 1089
+
+-- "A well-formed request from a tenant below its share, with serials left and fuel for the price, is admitted"
+abbrev pub Admission : CodeStep → Type 0
+Admission s =
+    (who awaited : ℕ) (reads writes : List ℕ) →
+    let t = tableOf s in
+    let e = asked t who awaited reads writes in
+    s .call ≡ Begin who awaited reads writes →
+    MayJoin clause9 t e →
+    Joins clause9 t e (outcomeOf s)
+
+-- "a tenant with an empty tank can always let go"
+abbrev pub LettingGo : CodeStep → Type 0
+LettingGo s =
+    (who serial : ℕ) →
+    let t = tableOf s in
+    s .call ≡ Finish who serial →
+    MayLeave t who serial →
+    Leaves t who serial (outcomeOf s)
+
+-- "the front may always run"
+abbrev pub FrontPicked : CodeStep → Type 0
+FrontPicked s =
+    (e : Request) (q : List Request) →
+    s .call ≡ Pick →
+    BlockedFront (tableOf s) e q →
+    FrontRuns e q (outcomeOf s)
+
+pub record OfCall (s : CodeStep) : Type 0 where
+  -- demand 1
+  pub refusals : Refusals s
+  pub refused-opens : RefusedOpens s
+  -- demand 2
+  pub rules : ByTheRules s
+  pub search-promotes : SearchPromotes s
+  pub search-names : SearchNames s
+  pub search-reports-none : SearchReportsNone s
+  pub search-cut : SearchCut s
+  -- demand 3
+  pub price : Costs9 (tableOf s) (s .call) (outcomeOf s)
+  pub own-fuel : OwnFuel s
+  pub other-fuel : OtherFuel s
+  pub search-costs : SearchCosts s
+  pub search-at-most : SearchAtMost s
+  pub admission : Admission s
+  pub letting-go : LettingGo s
+  pub front-picked : FrontPicked s
+
+-- every real call is so
+abbrev pub EveryCall : Type 0
+EveryCall = (s : CodeStep) → Made s → OfCall s

@@ -1,0 +1,46 @@
+-- The demands, over any run of the real calls from an opening, "with neighbours calling as they like". `seenRun` is the run with
+-- its states seen as tables: the calls, the answers and the units burnt in it are the code's own.
+use Prim.Native.Nat.{ℕ}
+use mathlib.Core.Path.{_≡_}
+use mathlib.Core.Bool.{true, false, not}
+use mathlib.Core.List.{List}
+use Rattle.rules.specs.Lists.{every}
+use Rattle.rules.specs.Table.{isTenant}
+use Rattle.rules.specs.Prices.{clause9}
+use Rattle.rules.specs.Sound.{Each}
+use Rattle.rules.specs.Runs.{Call, isOpen}
+use Rattle.promises.specs.Fuel.{PricesPaid, Balanced, Counted}
+use Rattle.promises.specs.Names.{NamesDiffer, HasLeft, isQueued}
+use Rattle.manager.specs.declared.Outcome.{Outcome}
+use Rattle.manager.specs.State.{view, Sound}
+use Rattle.manager.specs.Runs.{CodeRun, Ran, RealRun, seenRun}
+use Rattle.demands.specs.OfCalls.{OfCall}
+
+-- "serials ... never given twice": a name that was in the queue and has left does not come back before the next Open
+abbrev pub NamesStayAway : CodeRun → Type 0
+NamesStayAway last =
+    (who serial : ℕ) (more : List Call) (rs : List Outcome) (end : CodeRun) →
+    HasLeft who serial (seenRun last) →
+    every (λ c. not (isOpen c)) more ≡ true →
+    Ran last more rs end →
+    isQueued who serial (view (end .state)) ≡ false
+
+pub record OfRun (last : CodeRun) : Type 0 where
+  -- every call since the opening, and the state now
+  pub calls : Each OfCall (last .steps)
+  pub sound : Sound (last .state)
+  -- demand 3: "a tenant's burnt fuel is the sum of the prices of its own calls, refused ones at the table's charge"
+  pub burnt : (who : ℕ) → PricesPaid clause9 who (seenRun last)
+  -- "and equals fuel granted less fuel left"
+  pub balance : (who : ℕ) → isTenant who ≡ true → Balanced who (seenRun last)
+  -- "A tenant's calls not answered dry never number more than the fuel granted to it"
+  pub not-dry : (who : ℕ) → isTenant who ≡ true → Counted who (seenRun last)
+  -- no name is given twice
+  pub names : NamesDiffer (seenRun last .steps)
+  pub names-stay-away : NamesStayAway last
+
+abbrev pub EveryRun : Type 0
+EveryRun =
+    (shares : List ℕ) (first : Outcome) (cs : List Call) (rs : List Outcome) (last : CodeRun) →
+    RealRun shares first cs rs last →
+    OfRun last
