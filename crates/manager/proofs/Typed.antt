@@ -9,9 +9,7 @@ use Rattle.entry.specs.Entry.{blank}
 use Rattle.entry.proofs.Typed.{Lists, field-bytes}
 use Rattle.queue.proofs.Typed.{queue-slots, queue-lists}
 use Rattle.manager.specs.declared.State.{State}
-use Rattle.manager.specs.declared.Outcome.{Outcome}
 use Rattle.manager.proofs.State as state
-use Rattle.manager.proofs.Outcome as outcome
 
 pub state-slots : (s : State) (vs : List Val) → Is state.the-row s vs → length (s .queue .entries) ≡ 64
 state-slots s vs p = queue-slots (s .queue) _ (p .1 .1 .1 .1 .1 .0)
@@ -31,6 +29,3 @@ state-sized s vs p = record {
   slots = state-slots s vs p;
   lists = queue-lists (s .queue) _ (p .1 .1 .1 .1 .1 .0);
 }
-
-pub outcome-sized : (r : Outcome) (vs : List Val) → Is outcome.the-row r vs → Sized (r .state)
-outcome-sized r vs p = state-sized (r .state) _ (p .1 .1 .0)
