@@ -1,6 +1,6 @@
 -- The slice is looked into once, before the loop, and shut once, at either way out. A turn copies one entry and tests the pair: as long as
 -- none has clashed, the entries that are left decide. A walk of its MIR by hand, as a slice of structs asks.
-use mathlib.Core.Path.{_≡_, refl, sym, ap, _∙_}
+use mathlib.Core.Path.{refl, sym, ap, _∙_}
 use mathlib.Core.Bool.{true, false}
 use mathlib.Core.Option.{some, none}
 use mathlib.Core.List.{List, [], _∷_}
@@ -15,7 +15,7 @@ use mir.Val.{vint, vptr}
 use denote.Memory.{mem}
 use denote.Slice.{sliceVal}
 use Rattle.rules.proofs.ByHand.{id⊢, emp, _$_, !, by, keep, drop, look, store, forget, stop, hop, fld, from, load, lit, true-lit, false-lit, of-opd, bin, and-then, no-more, assigns-last, whole, sub, look-in, place-is, shuts-slice, Plain, struct, bit, Param, value, slice, spelling, telling, plainly, typed, had, handed, frame, standing, enters, held, fills, sets, fills-by-call, becomes, when, while-less, leaves, loops-to, turns-back, goes-on, leaves-turn, Nearer, nearer-wf, Ground, Function, Knows, Walk, takes-ref, asks-plain, shown, ends, token-left, ground, knows, proves, bytes-fit, Looked, looks-plain, elem-plain, elem-back}
-use Rattle.entry.proofs.Ahead.{conflicting, Still, one-more, found, at-end}
+use Rattle.entry.proofs.Ahead.{Still, one-more, found, at-end}
 use Rattle.entry.proofs.Entry as T
 use Rattle.entry.proofs.Entry.Laws as T′
 use Rattle.entry.proofs.pair_conflict as pair-conflict
@@ -63,8 +63,9 @@ module _ {M : Type 1} (𝓔 : Ground M) (known : Knows 𝓔 Pair pair-conflict-d
       -- [the entry; the others; the open borrow; the locals]
       fills ! 3 (of-opd ! (load ! (from ! (hop ! (look ! 17 refl) (stop !))) (look ! 0 refl))) refl (typed W D (getD ys (i .0) e) good) $
       elem-back ! D q′ ys (i .0) e b o within good $
-      asks-plain 𝓔 Pair (plainly (D ∷ D ∷ []) (getD ys (i .0) e, (e, tt))) ! known (handed W (D ∷ D ∷ []) (getD ys (i .0) e, (e, tt)) (good, (e-good, tt)) (id⊢ 𝓤 (emp 𝓤))) (bit .mach) (bit .tells) (λ r. r ≡ conflicting (getD ys (i .0) e) e) (λ r ws. id⊢ 𝓤 _)
+      asks-plain 𝓔 Pair (plainly (D ∷ D ∷ []) (getD ys (i .0) e, (e, tt))) ! known (handed W (D ∷ D ∷ []) (getD ys (i .0) e, (e, tt)) (good, (e-good, tt)) (id⊢ 𝓤 (emp 𝓤))) (bit .mach) (bit .tells) _ (λ r ws. id⊢ 𝓤 _)
       (and-then ! (held ! 3 refl) (and-then ! (held ! 3 refl) (no-more !))) (λ r r-good er.
+      -- er : r ≡ conflict (request (getD ys (i .0) e)) (request e)
       fills-by-call ! 2 refl (tt, tt) $ when ! (held ! 2 refl)
       -- it clashes: the slice is shut, and the function returns from the turn
       (λ it. shuts-slice ! tt (D .row) q′ ys b o $ fills ! 1 (of-opd ! (true-lit !)) refl (tt, tt) $

@@ -1,5 +1,5 @@
 -- The array is copied to a slot, the slot's first entries are lent to `clash_ahead` for a lifetime that the walk makes and ends, and the slot is whole again. A walk of its MIR by hand, for the loan. Its parameters are plain, so what calls it needs no walk.
-use mathlib.Core.Path.{_≡_, refl, sym, ap, subst}
+use mathlib.Core.Path.{refl, sym, ap, subst}
 use mathlib.Core.Option.{some}
 use mathlib.Core.List.{List, [], _∷_}
 use Prim.Native.Nat.{ℕ, _≤_}
@@ -11,7 +11,6 @@ use denote.Slice.{sliceVal}
 use borrow.Table.Elements.{length-take-le}
 use borrow.Rule.Array.Share.{room-take}
 use Rattle.rules.proofs.ByHand.{id⊢, emp, _$_, !, by, keep, drop, join, stop, from, of-opd, addr, and-then, no-more, agg, heard, Plain, struct, word, bit, array, counted, Param, value, spelling, telling, lending, typed, had, handed-lent, enters, held, fills, fills-by-call, becomes, leaves, Ground, Function, Knows, Walk, returned, asks, shown, ends, none-left, ground, knows, proves, LentFront, lends-front, front-back}
-use Rattle.entry.proofs.Ahead.{anyAhead}
 use Rattle.entry.proofs.Entry as T
 use Rattle.entry.proofs.Entry.Laws as T′
 use Rattle.entry.proofs.clash_ahead as clash-ahead
@@ -48,9 +47,9 @@ module _ {M : Type 1} (𝓔 : Ground M) (known : Knows 𝓔 Ahead clash-ahead-de
       lends-front ! tt D 64 m 8 l₄ xs refl xs-good (room-take (D .row) 64 m xs (counted D 64 xs xs-good) (lit< tt, lit< tt)) (λ ν γ. join ! $
       -- [the token and the slice; the locals, of which _4 is lent]
       asks 𝓔 Ahead (lending (ν ∷ []) fullShare (record { ptr = (l₄, 0); name = γ; now = take m xs }) (sliceVal (l₄, 0) (length (take m xs)) ∷ []) (D ∷ []) (e, tt)) ! known
-      (handed-lent W (D ∷ []) (e, tt) (e-good, tt) (ν ∷ []) fullShare (LentFront D l₄ ν γ m xs) (id⊢ 𝓤 (emp 𝓤))) (bit .mach) (bit .tells) (λ r ws. r ≡ anyAhead (take m xs) e) (λ r ws. id⊢ 𝓤 _)
+      (handed-lent W (D ∷ []) (e, tt) (e-good, tt) (ν ∷ []) fullShare (LentFront D l₄ ν γ m xs) (id⊢ 𝓤 (emp 𝓤))) (bit .mach) (bit .tells) _ (λ r ws. id⊢ 𝓤 _)
       (and-then ! (held ! 1 refl) (and-then ! (held ! 1 refl) (no-more !))) (λ r ws r-good er.
-      -- [the token; nothing; the locals]
+      -- [the token; nothing; the locals]; er : r ≡ conflictsAny (map request (take m xs)) (request e)
       returned ! (ν ∷ []) fullShare $ fills-by-call ! 2 refl (typed W bit r r-good) $ front-back ! tt D 64 m 9 l₄ ν xs refl xs-good $ drop ! $
       leaves ! 0 refl (some _ ∷ some _ ∷ some _ ∷ some _ ∷ some _ ∷ some _ ∷ some _ ∷ []) refl $ ends 𝓔 Before _ ! _ r (tt, (tt, (tt, tt))) (had W bit r r-good) (shown 𝓤 er) $ by ! (none-left W 3)))))
 

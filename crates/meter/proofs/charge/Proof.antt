@@ -1,8 +1,8 @@
 -- The borrow is opened, the fuel is read and handed to `less`, what is left is stored, and the borrow is closed at the new record. A walk of its MIR by hand, as a `&mut` of a struct asks.
-use mathlib.Core.Path.{_≡_, refl, ap}
+use mathlib.Core.Path.{refl, ap}
 use mathlib.Core.Option.{some}
 use mathlib.Core.List.{List, [], _∷_}
-use Prim.Native.Nat.{ℕ, _<_, _≤_, _-_, _^_}
+use Prim.Native.Nat.{ℕ, _<_, _≤_, _^_}
 use mir.Syntax.{w32}
 use denote.Struct.Laws as LL
 use Rattle.rules.proofs.ByHand.{id⊢, _$_, !, by, keep, look, stop, hop, fld, from, load, unit-lit, of-opd, and-then, no-more, assigns, whole, sub, look-in, store-in, heard, Plain, struct, word, nothing, Good, Param, value, borrow, spelling, telling, plainly, had, handed, enters, held, fills, fills-by-call, leaves, Ground, Function, Knows, Walk, takes-ref, asks-plain, shown, ends, last-left, ground, knows, proves, opens-plain, closes-plain}
@@ -55,10 +55,10 @@ module _ {M : Type 1} (𝓔 : Ground M) (known : Knows 𝓔 Less less-def.name) 
       -- [the meter; the open borrow; obs; auth; the locals]
       -- `m.fuel` is read, and `less` is called
       fills ! 4 (of-opd ! (load ! (from ! (hop ! (look ! 6 refl) (fld ! refl (stop !)))) (look-in ! 0 (sub ! 0 refl (whole !))))) refl (tt, record { fits = fuel-fits h is }) $
-      asks-plain 𝓔 Less (plainly two (h .fuel, (p, tt))) ! known (handed W two (h .fuel, (p, tt)) ((refl, fuel-fits h is), (p-good, tt)) (shown 𝓤 le)) (word w32 .mach) (word w32 .tells) (λ r. r ≡ h .fuel - p) (λ r ws. id⊢ 𝓤 _)
+      asks-plain 𝓔 Less (plainly two (h .fuel, (p, tt))) ! known (handed W two (h .fuel, (p, tt)) ((refl, fuel-fits h is), (p-good, tt)) (shown 𝓤 le)) (word w32 .mach) (word w32 .tells) _ (λ r ws. id⊢ 𝓤 _)
       (and-then ! (held ! 5 refl) (and-then ! (held ! 5 refl) (no-more !))) (λ r r-good e.
+      -- e : r ≡ h .fuel - p. What is left is stored, and the borrow is closed
       fills-by-call ! 4 refl (tt, record { fits = r-good .1 }) $
-      -- what is left is stored, and the borrow is closed
       assigns ! (of-opd ! (held ! 4 refl)) (from ! (hop ! (look ! 6 refl) (fld ! refl (stop !)))) (store-in ! 0 (sub ! 0 refl (whole !)) (tt, record { fits = r-good .1 })) $
       fills ! 4 (of-opd ! (unit-lit !)) refl (tt, tt) $
       closes-plain ! tt D (with h r) (good h r is (r-good .1)) b o $
