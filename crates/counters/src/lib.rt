@@ -50,7 +50,7 @@ pub fn lowered(counters: [u8; 256], list: [u8; 8], n: usize) -> [u8; 256]
 }
 
 // Whether one of the first n records of a list has a counter above a number.
-pub fn some_above(counters: [u8; 256], list: [u8; 8], n: usize, floor: u8) -> bool
+fn some_above(counters: [u8; 256], list: [u8; 8], n: usize, floor: u8) -> bool
     requires { ⌜ n ≤ 8 ⌝ }
     ensures { λ r. ⌜ r ≡ some (λ k. ltb floor (at counters k)) (take n list) ⌝ }
 {
@@ -66,7 +66,7 @@ pub fn some_above(counters: [u8; 256], list: [u8; 8], n: usize, floor: u8) -> bo
 }
 
 // Whether each of the first n records of a list has a counter of a given value.
-pub fn all_equal(counters: [u8; 256], list: [u8; 8], n: usize, value: u8) -> bool
+fn all_equal(counters: [u8; 256], list: [u8; 8], n: usize, value: u8) -> bool
     requires { ⌜ n ≤ 8 ⌝ }
     ensures { λ r. ⌜ r ≡ every (λ k. eqb (at counters k) value) (take n list) ⌝ }
 {

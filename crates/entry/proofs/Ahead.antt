@@ -10,10 +10,10 @@ use Rattle.rules.proofs.Steps.{list-step}
 use Rattle.entry.specs.declared.Entry.{Entry}
 use Rattle.entry.specs.Entry.{request}
 
-abbrev pub conflicting : Entry → Entry → Bool
+abbrev conflicting : Entry → Entry → Bool
 conflicting a e = conflict (request a) (request e)
 
-abbrev pub anyAhead : List Entry → Entry → Bool
+abbrev anyAhead : List Entry → Entry → Bool
 anyAhead ys e = conflictsAny (map request ys) (request e)
 
 -- those from i on decide

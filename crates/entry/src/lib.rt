@@ -65,7 +65,7 @@ pub fn rises(list: &[u8]) -> bool
 }
 
 // Whether a list has a record.
-pub fn holds(list: &[u8], r: u8) -> bool
+fn holds(list: &[u8], r: u8) -> bool
     ensures { λ b. ⌜ b ≡ member r (now (list .entry)) ⌝ }
 {
     let n = list.len();
@@ -95,7 +95,7 @@ pub fn meet(xs: &[u8], ys: &[u8]) -> bool
 }
 
 // The records of a lent list at the front of an array of 8, the rest zero.
-pub fn kept(list: &[u8]) -> [u8; 8]
+fn kept(list: &[u8]) -> [u8; 8]
     requires { ⌜ length (now list) ≤ 8 ⌝ }
     ensures { λ r. ⌜ Kept (now (list .entry)) r ⌝ }
 {
@@ -223,13 +223,13 @@ pub fn size(e: Entry) -> usize
 }
 
 // What an entry does to a record.
-pub struct Touch {
-    pub which: u8,
-    pub writes: bool,
+struct Touch {
+    which: u8,
+    writes: bool,
 }
 
 // The i-th record of an entry: those that it reads come first.
-pub fn touch_at(e: Entry, i: usize) -> Touch
+fn touch_at(e: Entry, i: usize) -> Touch
     requires { ⌜ i < sizeOf (request e) ⌝ }
     ensures { λ r. ⌜ r ≡ touchAt (request e) i ⌝ }
 {
@@ -249,7 +249,7 @@ pub fn touch_at(e: Entry, i: usize) -> Touch
 
 // Whether two entries conflict: every record of one beside every record of the other, left at the first that both have and
 // one of them writes.
-pub fn pair_conflict(a: Entry, b: Entry) -> bool
+fn pair_conflict(a: Entry, b: Entry) -> bool
     ensures { λ r. ⌜ r ≡ conflict (request a) (request b) ⌝ }
 {
     let n = size(a);
@@ -275,7 +275,7 @@ pub fn pair_conflict(a: Entry, b: Entry) -> bool
 }
 
 // Whether an entry conflicts with one of those that are lent: the pair test, left at the first clash.
-pub fn clash_ahead(es: &[Entry], e: Entry) -> bool
+fn clash_ahead(es: &[Entry], e: Entry) -> bool
     ensures { λ r. ⌜ r ≡ conflictsAny (map request (now (es .entry))) (request e) ⌝ }
 {
     let mut i = 0;

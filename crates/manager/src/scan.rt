@@ -28,17 +28,17 @@ use queue::Queue;
 use rules::Answer;
 
 // How a search ends: at the entry of a place, with no entry that qualifies, or cut short.
-pub enum Found {
+enum Found {
     At(usize),
     Nobody,
     Short,
 }
 
 // A search that has ended: what it burnt, and the meter that paid.
-pub struct Search {
-    pub found: Found,
-    pub meter: Meter,
-    pub burnt: u32,
+struct Search {
+    found: Found,
+    meter: Meter,
+    burnt: u32,
 }
 
 // The verdict of the maps: no read is in the map of written records, and no write is in either.

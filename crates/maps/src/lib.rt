@@ -14,14 +14,14 @@ pub fn none() -> [u64; 4]
 }
 
 // Whether record r is in the map.
-pub fn has(map: [u64; 4], r: u8) -> bool
+fn has(map: [u64; 4], r: u8) -> bool
     ensures { λ b. ⌜ b ≡ inMap map r ⌝ }
 {
     (map[(r / 64) as usize] >> (r % 64)) & 1 == 1
 }
 
 // The map with record r.
-pub fn with(mut map: [u64; 4], r: u8) -> [u64; 4]
+fn with(mut map: [u64; 4], r: u8) -> [u64; 4]
     ensures { λ m. ⌜ Grown map (r ∷ []) m ⌝ }
 {
     let i = (r / 64) as usize;

@@ -21,7 +21,7 @@ fn less(fuel: u32, price: u32) -> u32
 
 // Lowers the lent meter's fuel by the price, and leaves the rest as it was.
 // Document 01: "The tenant's meter is lent to the charge, which alone lowers fuel".
-pub fn charge(m: &mut Meter, price: u32)
+fn charge(m: &mut Meter, price: u32)
     requires { ⌜ price ≤ now m .fuel ⌝ }
     ensures { λ _. ⌜ meterView (now (m .exit)) ≡ spent (meterView (now (m .entry))) price ⌝ }
 {

@@ -94,11 +94,6 @@ conflict-spread q e =
     let split : conflictsAny q e ≡ (x || y || z) = some-or (λ (a : Request). meets (a .writes) (e .writes) || meets (a .writes) (e .reads)) (λ (a : Request). meets (a .reads) (e .writes)) q ∙ ap (λ (t : Bool). t || some (λ (a : Request). meets (a .reads) (e .writes)) q) (some-or (λ (a : Request). meets (a .writes) (e .writes)) (λ (a : Request). meets (a .writes) (e .reads)) q) ∙ cc (ww, wr, rw) in
     split ∙ ap (λ (t : Bool). t || z) (or-comm x y) ∙ or-assoc y x z ∙ ap (λ (t : Bool). y || t) (sym (some-or (writtenIn q) (readIn q) (e .writes)))
 
--- the front has no entry ahead of it
-pub front-clear : (q : List Request) → conflictsAny (take 0 q) (getD q 0 nobody) ≡ false
-unfolding some
-front-clear q = refl
-
 -- behind the last entry stands nobody, who conflicts with no entry
 past-nobody : (q : List Request) (at : ℕ) → length q ≤ at → getD q at nobody ≡ nobody
 past-nobody [] at h = refl

@@ -12,9 +12,6 @@ use Rattle.entry.proofs.Typed.{Bytes, bytes}
 use Rattle.counters.specs.Counters.{at}
 use Rattle.counters.proofs.all_equal.Statement.{statement}
 use Rattle.counters.proofs.all_equal.Tie as tie
-use Rattle.counters.proofs.all_equal.Reads as reads
-use Rattle.counters.proofs.all_equal.Lts as lts
-use Rattle.counters.proofs.wide.Reads as wide-reads
 
 abbrev Inv-loop : tie.InvT-loop
 Inv-loop n value counters list i₀ i =

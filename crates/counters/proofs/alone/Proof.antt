@@ -12,9 +12,6 @@ use Rattle.counters.specs.Counters.{at}
 use Rattle.counters.proofs.alone.Statement.{statement}
 use Rattle.counters.proofs.alone.Tie as tie
 use Rattle.counters.proofs.alone.Reads as reads
-use Rattle.counters.proofs.alone.Lts as lts
-use Rattle.counters.proofs.all_equal.Reads as all-equal-reads
-use Rattle.entry.proofs.few.Reads as few-reads
 
 -- the lists that are compared are the request's
 abbrev start : tie.After-writes → tie.Start

@@ -11,9 +11,6 @@ use Rattle.counters.specs.Counters.{at}
 use Rattle.counters.proofs.clashes.Statement.{statement}
 use Rattle.counters.proofs.clashes.Tie as tie
 use Rattle.counters.proofs.clashes.Reads as reads
-use Rattle.counters.proofs.clashes.Lts as lts
-use Rattle.counters.proofs.some_above.Reads as some-above-reads
-use Rattle.entry.proofs.few.Reads as few-reads
 
 -- the lists that are compared are the request's
 abbrev start : tie.After-writes → tie.Start

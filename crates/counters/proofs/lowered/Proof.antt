@@ -9,9 +9,6 @@ use Rattle.counters.specs.Counters.{Raised}
 use Rattle.counters.proofs.Loops.{raised-none, lowered-more, lowered-some}
 use Rattle.counters.proofs.lowered.Statement.{statement}
 use Rattle.counters.proofs.lowered.Tie as tie
-use Rattle.counters.proofs.lowered.Reads as reads
-use Rattle.counters.proofs.lowered.Lts as lts
-use Rattle.counters.proofs.wide.Reads as wide-reads
 
 abbrev Inv-loop : tie.InvT-loop
 Inv-loop n list next₀ i₀ next i = (i ≤ n) × Raised next (take i list) next₀

@@ -9,9 +9,6 @@ use Rattle.counters.specs.Counters.{Raised}
 use Rattle.counters.proofs.Loops.{raised-none, raised-more, raised-fits}
 use Rattle.counters.proofs.raised.Statement.{statement}
 use Rattle.counters.proofs.raised.Tie as tie
-use Rattle.counters.proofs.raised.Reads as reads
-use Rattle.counters.proofs.raised.Lts as lts
-use Rattle.counters.proofs.wide.Reads as wide-reads
 
 abbrev Inv-loop : tie.InvT-loop
 Inv-loop n list next₀ i₀ next i = (i ≤ n) × (length next ≡ 256) × Raised next₀ (take i list) next

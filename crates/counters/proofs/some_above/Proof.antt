@@ -12,9 +12,6 @@ use Rattle.rules.proofs.Steps.{some-part-step, some-part-end}
 use Rattle.counters.specs.Counters.{at}
 use Rattle.counters.proofs.some_above.Statement.{statement}
 use Rattle.counters.proofs.some_above.Tie as tie
-use Rattle.counters.proofs.some_above.Reads as reads
-use Rattle.counters.proofs.some_above.Lts as lts
-use Rattle.counters.proofs.wide.Reads as wide-reads
 
 abbrev Inv-loop : tie.InvT-loop
 Inv-loop n floor counters list i₀ i =

@@ -3,8 +3,6 @@ use borrow.Author.Tests.{eq-eqb, ne-eqb}
 use borrow.Author.Needs.{needs}
 use Rattle.entry.proofs.answered.Statement.{statement}
 use Rattle.entry.proofs.answered.Tie as tie
-use Rattle.entry.proofs.answered.Reads as reads
-use Rattle.entry.proofs.answered.Lts as lts
 
 enum-told : tie.Need-enum-told
 enum-told c = search needs

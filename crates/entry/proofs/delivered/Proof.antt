@@ -4,10 +4,6 @@ use borrow.Author.Needs.{needs}
 use Rattle.rules.proofs.Requests.{delivered-as}
 use Rattle.entry.proofs.delivered.Statement.{statement}
 use Rattle.entry.proofs.delivered.Tie as tie
-use Rattle.entry.proofs.delivered.Reads as reads
-use Rattle.entry.proofs.delivered.Lts as lts
-use Rattle.entry.proofs.answered.Reads as answered-reads
-use Rattle.entry.proofs.changed.Reads as changed-reads
 
 sub-left : tie.Need-sub-left
 sub-left c = search needs

@@ -3,8 +3,6 @@ use mathlib.Core.Path.{refl}
 use Rattle.entry.specs.Entry.{noEntry}
 use Rattle.entry.proofs.empty.Statement.{statement}
 use Rattle.entry.proofs.empty.Tie as tie
-use Rattle.entry.proofs.empty.Reads as reads
-use Rattle.entry.proofs.empty.Lts as lts
 
 returns : tie.Need-returns
 unfolding noEntry

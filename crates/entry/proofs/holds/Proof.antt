@@ -8,8 +8,6 @@ use Rattle.rules.proofs.Steps.{member-step, member-end}
 use borrow.Author.Needs.{needs}
 use Rattle.entry.proofs.holds.Statement.{statement}
 use Rattle.entry.proofs.holds.Tie as tie
-use Rattle.entry.proofs.holds.Reads as reads
-use Rattle.entry.proofs.holds.Lts as lts
 
 abbrev Inv-loop : tie.InvT-loop
 Inv-loop list r n i₀ i = (member r list ≡ member r (drop i list))

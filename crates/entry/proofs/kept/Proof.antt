@@ -8,8 +8,6 @@ use Rattle.rules.proofs.Arrays.{Filled, filled-more}
 use borrow.Author.Needs.{needs}
 use Rattle.entry.proofs.kept.Statement.{statement}
 use Rattle.entry.proofs.kept.Tie as tie
-use Rattle.entry.proofs.kept.Reads as reads
-use Rattle.entry.proofs.kept.Lts as lts
 
 abbrev Inv-loop : tie.InvT-loop
 Inv-loop list n out₀ i₀ out i = (i ≤ n) × Filled 8 i 0 list out

@@ -2,9 +2,6 @@
 use borrow.Author.Needs.{needs}
 use Rattle.entry.proofs.made.Statement.{statement}
 use Rattle.entry.proofs.made.Tie as tie
-use Rattle.entry.proofs.made.Reads as reads
-use Rattle.entry.proofs.made.Lts as lts
-use Rattle.entry.proofs.kept.Reads as kept-reads
 
 cast-nr : tie.Need-cast-nr
 cast-nr c = search needs

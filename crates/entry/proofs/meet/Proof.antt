@@ -7,9 +7,6 @@ use Rattle.rules.specs.Records.{meets}
 use Rattle.rules.proofs.Steps.{meets-step, meets-end}
 use Rattle.entry.proofs.meet.Statement.{statement}
 use Rattle.entry.proofs.meet.Tie as tie
-use Rattle.entry.proofs.meet.Reads as reads
-use Rattle.entry.proofs.meet.Lts as lts
-use Rattle.entry.proofs.holds.Reads as holds-reads
 
 abbrev Inv-loop : tie.InvT-loop
 Inv-loop xs ys n i₀ i = (meets xs ys ≡ meets (drop i xs) ys)

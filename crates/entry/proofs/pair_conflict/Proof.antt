@@ -13,10 +13,6 @@ use Rattle.entry.proofs.Touches.{clash, clashIn, clashes, touches, conf
 use borrow.Author.Needs.{needs}
 use Rattle.entry.proofs.pair_conflict.Statement.{statement}
 use Rattle.entry.proofs.pair_conflict.Tie as tie
-use Rattle.entry.proofs.pair_conflict.Reads as reads
-use Rattle.entry.proofs.pair_conflict.Lts as lts
-use Rattle.entry.proofs.size.Reads as size-reads
-use Rattle.entry.proofs.touch_at.Reads as touch-at-reads
 
 abbrev Inv-loop : tie.InvT-loop
 Inv-loop a b n m found₀ i x j₀ found j =

@@ -4,9 +4,6 @@ use Rattle.rules.specs.Request.{promoted}
 use borrow.Author.Needs.{needs}
 use Rattle.entry.proofs.promoted.Statement.{statement}
 use Rattle.entry.proofs.promoted.Tie as tie
-use Rattle.entry.proofs.promoted.Reads as reads
-use Rattle.entry.proofs.promoted.Lts as lts
-use Rattle.entry.proofs.changed.Reads as changed-reads
 
 changed-requires : tie.Need-changed-requires
 changed-requires c κs = search needs

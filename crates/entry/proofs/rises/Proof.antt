@@ -9,8 +9,6 @@ use Rattle.rules.proofs.Steps.{rising-first, rising-step, rising-end}
 use borrow.Author.Needs.{needs}
 use Rattle.entry.proofs.rises.Statement.{statement}
 use Rattle.entry.proofs.rises.Tie as tie
-use Rattle.entry.proofs.rises.Reads as reads
-use Rattle.entry.proofs.rises.Lts as lts
 
 abbrev Inv-loop : tie.InvT-loop
 Inv-loop list n i₀ i = (1 ≤ i) × (rising list ≡ risingPast (getD list (i - 1) 0) (drop i list))

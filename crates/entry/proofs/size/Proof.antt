@@ -8,8 +8,6 @@ use Rattle.entry.proofs.Typed.{entry-lists}
 use Rattle.entry.proofs.size.Statement.{statement}
 use Rattle.entry.proofs.size.Tie as tie
 use Rattle.entry.proofs.size.Reads as reads
-use Rattle.entry.proofs.size.Lts as lts
-use Rattle.entry.proofs.few.Reads as few-reads
 
 few-requires : tie.Need-few-requires
 few-requires c κs = search needs

@@ -6,9 +6,6 @@ use Rattle.entry.proofs.Typed.{entry-lists}
 use Rattle.entry.proofs.Touches.{touch-read, write-place, touch-write}
 use Rattle.entry.proofs.touch_at.Statement.{statement}
 use Rattle.entry.proofs.touch_at.Tie as tie
-use Rattle.entry.proofs.touch_at.Reads as reads
-use Rattle.entry.proofs.touch_at.Lts as lts
-use Rattle.entry.proofs.few.Reads as few-reads
 
 few-requires : tie.Need-few-requires
 few-requires c κs = search needs

@@ -5,8 +5,6 @@ use Rattle.queue.proofs.Typed.{queue-slots}
 use Rattle.queue.proofs.Views.{Slots, request-at}
 use Rattle.queue.proofs.entry_at.Statement.{statement}
 use Rattle.queue.proofs.entry_at.Tie as tie
-use Rattle.queue.proofs.entry_at.Reads as reads
-use Rattle.queue.proofs.entry_at.Lts as lts
 
 mul-result : tie.Need-mul-result
 mul-result c = search needs

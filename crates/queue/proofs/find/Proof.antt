@@ -12,8 +12,6 @@ use Rattle.queue.proofs.Typed.{queue-slots}
 use Rattle.queue.proofs.Views.{Slots, stands-step, stands-end}
 use Rattle.queue.proofs.find.Statement.{statement}
 use Rattle.queue.proofs.find.Tie as tie
-use Rattle.queue.proofs.find.Reads as reads
-use Rattle.queue.proofs.find.Lts as lts
 
 abbrev Inv-loop : tie.InvT-loop
 Inv-loop tenant serial q n i₀ i = (i ≤ n) × (standsAt tenant serial (requests q) ≡ i + standsAt tenant serial (drop i (requests q)))

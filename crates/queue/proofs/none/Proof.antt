@@ -3,9 +3,6 @@ use borrow.Author.Needs.{needs}
 use Rattle.queue.proofs.Views.{none-holds}
 use Rattle.queue.proofs.none.Statement.{statement}
 use Rattle.queue.proofs.none.Tie as tie
-use Rattle.queue.proofs.none.Reads as reads
-use Rattle.queue.proofs.none.Lts as lts
-use Rattle.entry.proofs.empty.Reads as empty-reads
 
 empty-requires : tie.Need-empty-requires
 empty-requires c κs = search needs

@@ -12,8 +12,6 @@ use Rattle.queue.proofs.Typed.{queue-slots}
 use Rattle.queue.proofs.Views.{Slots, places-step, places-end}
 use Rattle.queue.proofs.places.Statement.{statement}
 use Rattle.queue.proofs.places.Tie as tie
-use Rattle.queue.proofs.places.Reads as reads
-use Rattle.queue.proofs.places.Lts as lts
 
 abbrev Inv-loop : tie.InvT-loop
 Inv-loop tenant q n held₀ i₀ held i = (i ≤ n) × (held ≤ i) × (placesOf (requests q) tenant ≡ held + placesOf (drop i (requests q)) tenant)

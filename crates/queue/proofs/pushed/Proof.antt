@@ -4,8 +4,6 @@ use Rattle.queue.proofs.Typed.{queue-slots}
 use Rattle.queue.proofs.Views.{pushed-holds}
 use Rattle.queue.proofs.pushed.Statement.{statement}
 use Rattle.queue.proofs.pushed.Tie as tie
-use Rattle.queue.proofs.pushed.Reads as reads
-use Rattle.queue.proofs.pushed.Lts as lts
 
 mul-e : tie.Need-mul-e
 mul-e c = search needs

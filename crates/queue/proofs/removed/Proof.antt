@@ -9,9 +9,6 @@ use Rattle.queue.proofs.Typed.{queue-slots}
 use Rattle.queue.proofs.Views.{Slots, removed-holds}
 use Rattle.queue.proofs.removed.Statement.{statement}
 use Rattle.queue.proofs.removed.Tie as tie
-use Rattle.queue.proofs.removed.Reads as reads
-use Rattle.queue.proofs.removed.Lts as lts
-use Rattle.entry.proofs.empty.Reads as empty-reads
 
 abbrev Inv-loop : tie.InvT-loop
 Inv-loop at next₀ last i₀ next i = (at ≤ i) × (i ≤ last) × Shifted at i (next₀ .entries) (next .entries)

@@ -4,8 +4,6 @@ use Rattle.queue.proofs.Typed.{queue-slots}
 use Rattle.queue.proofs.Views.{replaced-holds}
 use Rattle.queue.proofs.replaced.Statement.{statement}
 use Rattle.queue.proofs.replaced.Tie as tie
-use Rattle.queue.proofs.replaced.Reads as reads
-use Rattle.queue.proofs.replaced.Lts as lts
 
 mul-e : tie.Need-mul-e
 mul-e c = search needs
