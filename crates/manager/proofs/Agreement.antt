@@ -9,11 +9,8 @@ use Rattle.rules.proofs.Verdicts.{maps-conflicts}
 use Rattle.entry.specs.Entry.{request}
 use Rattle.queue.specs.Queue.{requests}
 use Rattle.manager.specs.Search.{mapsOf}
-use Rattle.manager.specs.Agreement.{MapsAgree, Seen, VerdictsAgree}
+use Rattle.manager.specs.Agreement.{Seen, VerdictsAgree}
 use Rattle.manager.proofs.Walking.{SameMaps, clear-same, maps-more}
-
-pub maps-and-pairs-agree : MapsAgree
-maps-and-pairs-agree q at = maps-conflicts (take at q) (getD q at nobody)
 
 -- the arrays of words hold the records of the law book's maps
 seen-maps : {q : List Request} {written read : List ℕ} → Seen q written read → SameMaps (mapsOf written read) (mapsOver noRecords q)
@@ -26,5 +23,5 @@ verdicts-agree q at e written read by-maps by-pairs place answers =
     answers .maps
     ∙ clear-same (seen-maps (place .ahead)) (request e)
     ∙ ap (clearBy (mapsOver noRecords (take at (requests q)))) (place .entry)
-    ∙ maps-and-pairs-agree (requests q) at
+    ∙ maps-conflicts (take at (requests q)) (getD (requests q) at nobody)
     ∙ sym (answers .pairs)

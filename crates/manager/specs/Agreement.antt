@@ -5,7 +5,7 @@ use mathlib.Core.Bool.{Bool, not}
 use mathlib.Core.List.{List, [], _∷_, _++_}
 use lib.ListN.{getD, take}
 use Rattle.rules.specs.Request.{Request, nobody, conflictsAny}
-use Rattle.rules.specs.Scan.{noRecords, mapsOver, clearBy}
+use Rattle.rules.specs.Scan.{clearBy}
 use Rattle.maps.specs.Maps.{Empty, Grown}
 use Rattle.entry.specs.declared.Entry.{Entry}
 use Rattle.entry.specs.Entry.{request}
@@ -13,13 +13,8 @@ use Rattle.queue.specs.declared.Queue.{Queue}
 use Rattle.queue.specs.Queue.{requests}
 use Rattle.manager.specs.Search.{mapsOf}
 
--- on every list of requests and at every place: the maps over the entries ahead, and the entries ahead themselves
-abbrev pub MapsAgree : Type 0
-MapsAgree =
-    (q : List Request) (at : ℕ) →
-    clearBy (mapsOver noRecords (take at q)) (getD q at nobody) ≡ not (conflictsAny (take at q) (getD q at nobody))
-
--- ---- the same of the code's two functions, `clear_by_maps` and `clear_by_pairs`
+-- The law book's maps and its plain comparison do so (`MapsTell`); here the code's two functions, `clear_by_maps` and
+-- `clear_by_pairs`.
 -- the two arrays of words once the entries of a list have been looked at: none at first, and each entry's records with them
 pub data Seen : List Request → List ℕ → List ℕ → Type 0 where
   none :

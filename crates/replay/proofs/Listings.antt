@@ -1,53 +1,33 @@
--- Stepping through a file gives the listing of the whole file, and so do its pieces.
-use Prim.Native.Nat.{ℕ, _+_}
+-- Each step's line, and then the lines left: so the steps, and the pieces, are the listing.
+use Prim.Native.Nat.{ℕ}
 use mathlib.Core.Path.{_≡_, refl, sym, ap, _∙_}
-use mathlib.Core.Bool.{Bool, true, false}
-use mathlib.Core.List.{List, [], _++_, append-nil}
+use mathlib.Core.Bool.{Bool}
+use mathlib.Core.List.{List, _++_, append-nil}
 use lib.ListN.{take}
 use Rattle.manager.specs.declared.State.{State}
 use Rattle.manager.specs.State.{view}
-use Rattle.events.specs.Events.{tooLong}
 use Rattle.listing.specs.Listing.{headerText}
 use Rattle.listing.specs.Written.{textOf}
-use Rattle.replay.specs.declared.Stepped.{Stepped}
 use Rattle.replay.specs.declared.piece.Place.{Place}
-use Rattle.replay.specs.Replay.{fileLine, linesLeft, unopened, listingOf, Steps}
-use Rattle.replay.specs.Pieces.{rest, Piece}
+use Rattle.replay.specs.Replay.{linesLeft, listingOf}
+use Rattle.replay.specs.Pieces.{rest}
+use Rattle.replay.specs.Listings.{Run, StepsList, Pieces, PiecesList}
 use Rattle.replay.proofs.Lines.{step-lines}
 
--- ---- steps
--- a run of steps from a state, a position, whether it is the first record's, and the record's number: each is one that the
--- contract of `step` allows, the next begins where it left off, the last is the first that says to stop; with their lines
-pub data Run (file : List ℕ) : State → ℕ → Bool → ℕ → List ℕ → Type 0 where
-  stops : {s : State} {at : ℕ} {first : Bool} {number : ℕ} {r : Stepped} → Steps s file at first number r → r .more ≡ false → Run file s at first number (textOf (r .line))
-  goes : {s : State} {at : ℕ} {first : Bool} {number : ℕ} {r : Stepped} {text : List ℕ} → Steps s file at first number r → r .more ≡ true → Run file (r .state) (r .next) false (number + 1) text → Run file s at first number (textOf (r .line) ++ text)
-
 run-lines : {file : List ℕ} {s : State} {at : ℕ} {first : Bool} {number : ℕ} {text : List ℕ} → Run file s at first number text → text ≡ linesLeft file (view s) at first number
-run-lines (stops h end) = sym (step-lines h ∙ rw end (append-nil _))
-run-lines (goes {s} {at} {first} {number} {r} {text} h on run) =
+run-lines (Run.stops h end) = sym (step-lines h ∙ rw end (append-nil _))
+run-lines (Run.goes {s} {at} {first} {number} {r} {text} h on run) =
     ap (λ (t : List ℕ). textOf (r .line) ++ t) (run-lines run) ∙ sym (step-lines h ∙ rw on refl)
 
--- from the state before the first record, behind the header, the lines are the listing
-pub stepping : {file : List ℕ} {s : State} {text : List ℕ} → tooLong file ≡ false → view s ≡ unopened → Run file s 0 true 1 text → headerText ++ text ≡ listingOf file
+pub stepping : StepsList
 unfolding listingOf
-stepping {file} short fresh run = rw short (ap (λ (t : List ℕ). headerText ++ t) (run-lines run ∙ rw fresh refl))
-
--- and a file that is too long has one line
-pub too-long-listing : (file : List ℕ) → tooLong file ≡ true → listingOf file ≡ headerText ++ fileLine 1 24
-unfolding listingOf
-too-long-listing file long = rw long refl
-
--- ---- pieces, as the programs write them
--- the pieces from a place on, each one that the contract of `filled` allows, until there is no more
-pub data Pieces (file : List ℕ) : Place → List ℕ → Type 0 where
-  none : {p : Place} → p .more ≡ false → Pieces file p []
-  also : {p r : Place} {out text : List ℕ} → Piece file (rest file p) out r → Pieces file r text → Pieces file p (take (r .len) out ++ text)
+stepping file s text short fresh run =
+    rw short (ap (λ (t : List ℕ). headerText ++ t) (run-lines run ∙ rw fresh refl))
 
 pieces-rest : {file : List ℕ} {p : Place} {text : List ℕ} → Pieces file p text → text ≡ rest file p
-pieces-rest (none end) = rw end refl
-pieces-rest (also {p} {r} {out} {text} h more) =
+pieces-rest (Pieces.none end) = rw end refl
+pieces-rest (Pieces.also {p} {r} {out} {text} h more) =
     ap (λ (t : List ℕ). take (r .len) out ++ t) (pieces-rest more) ∙ h .is
 
--- the first piece, and those behind it, are the listing of any file whatever
-pub written : {file out : List ℕ} {p : Place} {text : List ℕ} → Piece file (listingOf file) out p → Pieces file p text → take (p .len) out ++ text ≡ listingOf file
-written {file} {out} {p} h more = ap (λ (t : List ℕ). take (p .len) out ++ t) (pieces-rest more) ∙ h .is
+pub written : PiecesList
+written file out p text h more = ap (λ (t : List ℕ). take (p .len) out ++ t) (pieces-rest more) ∙ h .is

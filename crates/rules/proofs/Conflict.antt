@@ -4,13 +4,14 @@ use Prim.Native.Nat.{ℕ, zero, suc, _≤_}
 use mathlib.Core.Path.{_≡_, refl, sym, ap, _∙_}
 use mathlib.Core.Bool.{Bool, true, false, _&&_, _||_}
 use mathlib.Core.List.{List, [], _∷_}
-use mathlib.Core.Logic.{_↔_, ⊎-elim}
+use mathlib.Core.Logic.{⊎-elim}
 use native.Mathlib.Nat.{not-suc-le-zero}
 use native.Mathlib.Omega.{arith}
 use lib.ListN.{length, getD, take}
 use Rattle.rules.specs.Lists.{some}
 use Rattle.rules.specs.Records.{member, meets}
 use Rattle.rules.specs.Request.{Request, nobody, conflict, conflictsAny}
+use Rattle.rules.specs.Verdicts.{sharesAt, ConflictExact}
 use Rattle.rules.proofs.Tests.{or-assoc, or-comm, or-true, either, both}
 use Rattle.rules.proofs.Lists.{some-cong, some-or, some-some, meets-sym, meets-at, meets-both}
 
@@ -26,10 +27,6 @@ conflict-sym a b =
 -- the record is read or written by the request
 abbrev pub touches : Request → ℕ → Bool
 touches e r = member r (e .reads) || member r (e .writes)
-
--- "written by one of them and read or written by the other"
-abbrev pub sharesAt : Request → Request → ℕ → Bool
-sharesAt a b r = member r (a .writes) && touches b r || member r (b .writes) && touches a r
 
 -- ---- from the three comparisons of lists to a shared record, and back
 ww-shares : (a b : Request) → meets (a .writes) (b .writes) ≡ true → (r : ℕ) × (sharesAt a b r ≡ true)
@@ -64,8 +61,7 @@ shares-conflict a b r e = ⊎-elim
     (λ (h : (member r (b .writes) && touches a r) ≡ true). conflict-sym a b ∙ half b a r h)
     (either (member r (a .writes) && touches b r) (member r (b .writes) && touches a r) e)
 
--- "some record is written by one of them and read or written by the other"
-pub conflict-exact : (a b : Request) → (conflict a b ≡ true) ↔ ((r : ℕ) × (sharesAt a b r ≡ true))
+pub conflict-exact : ConflictExact
 conflict-exact a b = (conflict-shares a b, λ w. shares-conflict a b (w .0) (w .1))
 
 -- ---- a queue

@@ -1,16 +1,17 @@
 -- The counters and the maps tell conflicts: figure 2's verdict at Begin, Recheck's condition, and the maps of the search.
-use Prim.Native.Nat.{ℕ, _+_, _<_}
+use Prim.Native.Nat.{ℕ, _+_}
 use mathlib.Core.Path.{_≡_, refl, sym, ap, _∙_}
 use mathlib.Core.Bool.{Bool, true, false, _&&_, _||_, not}
 use mathlib.Core.List.{List, [], _∷_, _++_}
 use native.Mathlib.Omega.{arith}
 use lib.Dec.{eqb, ltb}
-use lib.ListN.{length, getD}
+use lib.ListN.{getD}
 use Rattle.rules.specs.Lists.{some, every}
-use Rattle.rules.specs.Records.{member, meets, WellFormed}
+use Rattle.rules.specs.Records.{member, meets}
 use Rattle.rules.specs.Request.{Request, nobody, conflictsAny}
 use Rattle.rules.specs.Counters.{cx, cs, figure2, alone}
 use Rattle.rules.specs.Calls.{withoutEntry}
+use Rattle.rules.specs.Verdicts.{Figure2Tells, RecheckTells, MapsTell}
 use Rattle.rules.specs.Scan.{Maps, noRecords, mapped, mapsOver, clearBy}
 use Rattle.rules.proofs.Tests.{one, or-assoc, or-false, not-or, above-one, zero-above, one-own, and-comm}
 use Rattle.rules.proofs.Lists.{some-cong, some-in, every-in, every-some, every-and, some-or, count-above, count-last, count-without, apart-at, meets-sym}
@@ -75,13 +76,13 @@ counts-clash q e =
     cc (conflict-spread q e)
 
 -- Begin: figure 2's verdict, by the counters once the request has joined, is the conflict with the queue before it.
-pub figure2-conflicts : (q : List Request) (e : Request) → WellFormed (e .reads) (e .writes) → figure2 (cx (q ++ e ∷ [])) (cs (q ++ e ∷ [])) e ≡ conflictsAny q e
+pub figure2-conflicts : Figure2Tells
 figure2-conflicts q e f =
     let own : Own e (cx q) (cs q) (cx (q ++ e ∷ [])) (cs (q ++ e ∷ [])) = record { writes = λ k. count-last (λ (a : Request). member k (a .writes)) q e; reads = λ k. count-last (λ (a : Request). member k (a .reads)) q e } in
     own-figure2 own (f .apart) ∙ counts-clash q e
 
 -- Recheck: its condition is that no other entry, ahead or behind, conflicts.
-pub alone-conflicts : (q : List Request) (at : ℕ) → at < length q → WellFormed (getD q at nobody .reads) (getD q at nobody .writes) → alone (cx q) (cs q) (getD q at nobody) ≡ not (conflictsAny (withoutEntry at q) (getD q at nobody))
+pub alone-conflicts : RecheckTells
 alone-conflicts q at h f =
     let e = getD q at nobody in
     let rest = withoutEntry at q in
@@ -100,7 +101,7 @@ maps-read m [] r = sym (or-false (m .read r))
 maps-read m (a ∷ q) r = maps-read (mapped m a) q r ∙ or-assoc (m .read r) (member r (a .reads)) (readIn q r)
 
 -- "The map's verdict and the plain comparison must agree on every queue."
-pub maps-conflicts : (q : List Request) (e : Request) → clearBy (mapsOver noRecords q) e ≡ not (conflictsAny q e)
+pub maps-conflicts : MapsTell
 unfolding clearBy
 maps-conflicts q e =
     let m = mapsOver noRecords q in

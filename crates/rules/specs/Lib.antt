@@ -8,6 +8,7 @@ pub mod Refusals
 pub mod Counters
 pub mod Scan
 pub mod Calls
+pub mod Verdicts
 pub mod Said
 pub mod Sound
 pub mod Runs
