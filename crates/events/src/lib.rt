@@ -15,7 +15,7 @@ use rules::Event;
 use rules::Kind;
 
 // Which call a tag is.
-pub enum Tagged {
+enum Tagged {
     Known(Kind),
     Unknown,
 }

@@ -1,7 +1,7 @@
 -- Document 01's prices in numbers: what each call burns that is not refused, and what the table charges a refused one.
 use Prim.Native.Nat.{ℕ}
-use mathlib.Core.Path.{_≡_, refl, sym, _∙_}
-use mathlib.Core.Bool.{true, false, true≢false}
+use mathlib.Core.Path.{_≡_, refl, sym, ap, _∙_}
+use mathlib.Core.Bool.{Bool, true, false, true≢false}
 use native.Mathlib.Omega.{arith}
 use lib.Dec.{eqb}
 use Rattle.rules.specs.declared.Answer.{Answer}
@@ -16,7 +16,8 @@ use Rattle.rules.specs.Said.{said}
 use Rattle.rules.specs.Runs.{Call, step, roleOf, callerOf, isOpen, number}
 use Rattle.rules.specs.Runs.Call.{Begin, Finish, Recheck, Scan, Open, Grant, Pick, Deliver}
 use Rattle.rules.proofs.Tests.{if-cases}
-use Rattle.promises.specs.Fuel.{tableCharge, cost9, Costs9, Prices9}
+use Rattle.rules.proofs.Costly.{costly-range}
+use Rattle.promises.specs.Fuel.{tableCharge, Charged9, cost9, Costs9, Prices9}
 use Rattle.promises.proofs.Refusals.{refuses9}
 use Rattle.promises.proofs.Fuel.{same-if, burns-price}
 
@@ -47,3 +48,6 @@ costs t (Deliver who serial) = sym (same-if (eqb (number (deliverOf t who serial
 
 pub prices9 : Prices9
 prices9 t c = (costs t c, sym (burns-price clause9 t c))
+
+pub charged9 : Charged9
+charged9 n = ap (λ (b : Bool). if b then 1 else 0) (costly-range n)

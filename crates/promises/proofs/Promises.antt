@@ -13,7 +13,7 @@ use Rattle.promises.proofs.Fuel.{burns-price, burns-prices, own-call, o
 use Rattle.promises.proofs.Calls.{not-dry}
 use Rattle.promises.proofs.Search.{search-price, search-most, search-promotes, search-ends, search-nothing, search-names, search-cut}
 use Rattle.promises.proofs.Admitted.{admits, finishes, picks}
-use Rattle.promises.proofs.Numbers.{prices9}
+use Rattle.promises.proofs.Numbers.{prices9, charged9}
 use Rattle.promises.proofs.Names.{own-names, two-names, never-back}
 
 pub promises : {p : Prices} → Fair p → Promises p
@@ -60,4 +60,4 @@ pub search-most9 : SearchMost9
 search-most9 t who s = omega (arith, search-most clause9 t who 17 s (λ n small. omega arith))
 
 pub at-clause9 : AtClause9
-at-clause9 = record { all = promises clause9-fair; prices = prices9; search-price = search-price9; search-most = search-most9; refuses = refuses9 }
+at-clause9 = record { all = promises clause9-fair; prices = prices9; charged = charged9; search-price = search-price9; search-most = search-most9; refuses = refuses9 }

@@ -1,9 +1,9 @@
 -- Demand 3, the fuel of a tenant over any run of calls, whatever the other tenants and the host do.
 use Prim.Native.Nat.{ℕ, _+_, _*_, _≤_}
 use mathlib.Core.Path.{_≡_}
-use mathlib.Core.Bool.{true, false}
+use mathlib.Core.Bool.{true, false, _&&_}
 use mathlib.Core.List.{List}
-use lib.Dec.{eqb}
+use lib.Dec.{eqb, leb}
 use lib.ListN.{length}
 use Rattle.rules.specs.Lists.{if_then_else_, total}
 use Rattle.rules.specs.Records.{member}
@@ -103,6 +103,10 @@ NotDry p =
 -- the column "Burns": `unit` for the refusals that it charges, 0 for the others
 abbrev pub column : ℕ → ℕ → ℕ
 column unit n = if member n costly then unit else 0
+
+-- in numbers, for document 01: 1 for 3 to 11
+abbrev pub Charged9 : Type 0
+Charged9 = (n : ℕ) → column 1 n ≡ (if leb 3 n && leb n 11 then 1 else 0)
 
 -- what a refused call burns by the table, by its role: "Host calls, which burn nothing"; "scan cut short: what it had burnt",
 -- which is `walked`

@@ -5,7 +5,7 @@ use mathlib.Core.List.{List}
 use Rattle.rules.specs.Prices.{Prices, clause9}
 use Rattle.rules.specs.Sound.{Each, SoundBy}
 use Rattle.rules.specs.Runs.{Call, recordsOf}
-use Rattle.promises.specs.Fuel.{BurnsPrice, BurnsPrices, OwnCall, OtherCall, Balance, NotDry, Prices9, reached}
+use Rattle.promises.specs.Fuel.{BurnsPrice, BurnsPrices, OwnCall, OtherCall, Balance, NotDry, Charged9, Prices9, reached}
 use Rattle.promises.specs.Refused.{Refuses, Refuses9, RefusesOpen}
 use Rattle.promises.specs.Searches.{SearchPromotes, SearchEnds, SearchNothing, SearchNames, SearchCut}
 use Rattle.promises.specs.Searches.{SearchPrice, SearchMost, SearchPrice9, SearchMost9}
@@ -56,6 +56,7 @@ pub record Promises (p : Prices) : Type 1 where
 pub record AtClause9 : Type 1 where
   pub all : Promises clause9
   pub prices : Prices9
+  pub charged : Charged9
   pub search-price : SearchPrice9
   pub search-most : SearchMost9
   pub refuses : Refuses9
