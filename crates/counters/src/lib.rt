@@ -1,9 +1,9 @@
-// The counters of the records, Cx or Cs: one for each record. Raised where a request joins, lowered where it leaves; and
-// the verdicts that are told from them.
+// The counters of the records, Cx or Cs: one for each record. They are lent: raised where a request joins, lowered where it
+// leaves; and the verdicts that are told from them.
 ghost use mathlib.Core.Path.{_≡_};
 ghost use Prim.Native.Nat.{_≤_, _<_};
 ghost use lib.Dec.{eqb, ltb};
-ghost use lib.ListN.{take};
+ghost use lib.ListN.{length, take};
 ghost use Rattle.rules.specs.Lists.{some, every};
 ghost use Rattle.rules.specs.Counters.{figure2, alone as aloneBy};
 ghost use Rattle.entry.specs.Entry.{request};
@@ -17,42 +17,39 @@ fn wide(x: u8) -> usize
     x as usize
 }
 
-// The counters with one added at each of the first n records of a list.
-pub fn raised(counters: [u8; 256], list: [u8; 8], n: usize) -> [u8; 256]
+// Adds one at each of the first n records of a list. What is lent does not tell its length, so the contract asks for it.
+pub fn raise(counters: &mut [u8; 256], list: [u8; 8], n: usize)
     requires { ⌜ n ≤ 8 ⌝ }
-    requires { ⌜ Under 65 counters ⌝ }
-    ensures { λ r. ⌜ Raised counters (take n list) r ⌝ }
+    requires { ⌜ Under 65 (now counters) ⌝ }
+    requires { ⌜ length (now counters) ≡ 256 ⌝ }
+    ensures { λ _. ⌜ Raised (now (counters .entry)) (take n list) (now (counters .exit)) ⌝ }
 {
-    let mut next = counters;
     let mut i: usize = 0;
     while i < n {
         let k = wide(list[i]);
-        next[k] += 1;
+        counters[k] += 1;
         i += 1;
     }
-    next
 }
 
-// The counters with one taken at each of the first n records of a list, at each of which there is one to take.
-pub fn lowered(counters: [u8; 256], list: [u8; 8], n: usize) -> [u8; 256]
+// Takes one at each of the first n records of a list, at each of which there is one to take.
+pub fn lower(counters: &mut [u8; 256], list: [u8; 8], n: usize)
     requires { ⌜ n ≤ 8 ⌝ }
-    requires { ⌜ Stocked counters (take n list) ⌝ }
-    ensures { λ r. ⌜ Raised r (take n list) counters ⌝ }
+    requires { ⌜ Stocked (now counters) (take n list) ⌝ }
+    ensures { λ _. ⌜ Raised (now (counters .exit)) (take n list) (now (counters .entry)) ⌝ }
 {
-    let mut next = counters;
     let mut i: usize = 0;
     while i < n {
         let k = wide(list[i]);
-        next[k] -= 1;
+        counters[k] -= 1;
         i += 1;
     }
-    next
 }
 
 // Whether one of the first n records of a list has a counter above a number.
-fn some_above(counters: [u8; 256], list: [u8; 8], n: usize, floor: u8) -> bool
+fn some_above(counters: &[u8; 256], list: [u8; 8], n: usize, floor: u8) -> bool
     requires { ⌜ n ≤ 8 ⌝ }
-    ensures { λ r. ⌜ r ≡ some (λ k. ltb floor (at counters k)) (take n list) ⌝ }
+    ensures { λ r. ⌜ r ≡ some (λ k. ltb floor (at (now (counters .entry)) k)) (take n list) ⌝ }
 {
     let mut i: usize = 0;
     while i < n {
@@ -66,9 +63,9 @@ fn some_above(counters: [u8; 256], list: [u8; 8], n: usize, floor: u8) -> bool
 }
 
 // Whether each of the first n records of a list has a counter of a given value.
-fn all_equal(counters: [u8; 256], list: [u8; 8], n: usize, value: u8) -> bool
+fn all_equal(counters: &[u8; 256], list: [u8; 8], n: usize, value: u8) -> bool
     requires { ⌜ n ≤ 8 ⌝ }
-    ensures { λ r. ⌜ r ≡ every (λ k. eqb (at counters k) value) (take n list) ⌝ }
+    ensures { λ r. ⌜ r ≡ every (λ k. eqb (at (now (counters .entry)) k) value) (take n list) ⌝ }
 {
     let mut i: usize = 0;
     while i < n {
@@ -83,8 +80,8 @@ fn all_equal(counters: [u8; 256], list: [u8; 8], n: usize, value: u8) -> bool
 
 // Figure 2's verdict on an entry whose own counts are in: a read clashes if Cx is above 0, a write if Cx is above 1 or Cs
 // above 0.
-pub fn clashes(cx: [u8; 256], cs: [u8; 256], e: Entry) -> bool
-    ensures { λ r. ⌜ r ≡ figure2 (at cx) (at cs) (request e) ⌝ }
+pub fn clashes<'a>(cx: &'a [u8; 256], cs: &'a [u8; 256], e: Entry) -> bool
+    ensures { λ r. ⌜ r ≡ figure2 (at (now (cx .entry))) (at (now (cs .entry))) (request e) ⌝ }
 {
     let nr = entry::few(e.nr);
     let nw = entry::few(e.nw);
@@ -100,8 +97,8 @@ pub fn clashes(cx: [u8; 256], cs: [u8; 256], e: Entry) -> bool
 }
 
 // Recheck's condition: every written record has Cx = 1 and Cs = 0, and every read record has Cx = 0.
-pub fn alone(cx: [u8; 256], cs: [u8; 256], e: Entry) -> bool
-    ensures { λ r. ⌜ r ≡ aloneBy (at cx) (at cs) (request e) ⌝ }
+pub fn alone<'a>(cx: &'a [u8; 256], cs: &'a [u8; 256], e: Entry) -> bool
+    ensures { λ r. ⌜ r ≡ aloneBy (at (now (cx .entry))) (at (now (cs .entry))) (request e) ⌝ }
 {
     let nr = entry::few(e.nr);
     let nw = entry::few(e.nw);

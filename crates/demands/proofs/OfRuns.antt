@@ -11,7 +11,7 @@ use Rattle.promises.specs.Fuel.{PricesPaid, Balanced, Counted}
 use Rattle.promises.specs.Names.{NamesDiffer, HasLeft, isQueued}
 use Rattle.promises.specs.Promises.{Promises}
 use Rattle.promises.proofs.Promises.{at-clause9}
-use Rattle.manager.specs.declared.Outcome.{Outcome}
+use Rattle.manager.specs.declared.State.{State}
 use Rattle.manager.specs.State.{Sound}
 use Rattle.manager.specs.Runs.{CodeRun, Ran, uncalled, called, seenRun}
 use Rattle.manager.proofs.Runs.{ran-run, code-runs-faithfully}
@@ -20,7 +20,7 @@ use Rattle.demands.specs.OfRuns.{EveryRun}
 use Rattle.demands.proofs.OfCalls.{every-call}
 
 -- each step of a run is a real call on a sound state
-ran-made : {run last : CodeRun} {cs : List Call} {rs : List Outcome} → Ran run cs rs last → Sound (run .state) → Each Made (run .steps) → Each Made (last .steps)
+ran-made : {run last : CodeRun} {cs : List Call} {rs : List State} → Ran run cs rs last → Sound (run .state) → Each Made (run .steps) → Each Made (last .steps)
 ran-made uncalled h all = all
 ran-made {run} (called c r d more) h all =
     ran-made more (d .sound) (if-either (Each Made) (isOpen c) Each.none (Each.also (record { sound = h; did = d }) all))

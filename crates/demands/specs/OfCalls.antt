@@ -21,29 +21,28 @@ use Rattle.promises.specs.Refused.{RefusedOpen}
 use Rattle.promises.specs.Searches.{FirstReady, Promoting, LookedAtAll, CutShort}
 use Rattle.promises.specs.Places.{MayJoin, Joins, MayLeave, Leaves, BlockedFront, FrontRuns}
 use Rattle.counters.specs.Counters.{at}
-use Rattle.queue.specs.Queue.{requests}
 use Rattle.manager.specs.declared.State.{State}
 use Rattle.manager.specs.State.{view, Sound}
 use Rattle.manager.specs.Runs.{CodeStep, DidCall, seen}
 
 pub record Made (s : CodeStep) : Type 0 where
   pub sound : Sound (s .met)
-  pub did : DidCall (s .met) (s .call) (s .outcome)
+  pub did : DidCall (s .met) (s .call) (s .gave)
 
 -- the table that the call met, and what the law book sees of its outcome
 abbrev pub tableOf : CodeStep → Table
 tableOf s = view (s .met)
 
 abbrev pub outcomeOf : CodeStep → LawOutcome
-outcomeOf s = seen (s .outcome)
+outcomeOf s = seen (s .gave)
 
 -- ---- demand 1: "A refusal carries its number from the table, changes no counter, entry or place, and burns exactly the fuel
 -- stated there"
 pub record Untouched (a b : State) : Type 0 where
   pub exclusive : (r : ℕ) → r < 256 → at (b .cx) r ≡ at (a .cx) r
   pub shared : (r : ℕ) → r < 256 → at (b .cs) r ≡ at (a .cs) r
-  pub entries : requests (b .queue) ≡ requests (a .queue)
-  pub places : (who : ℕ) → placesOf (requests (b .queue)) who ≡ placesOf (requests (a .queue)) who
+  pub entries : view b .queue ≡ view a .queue
+  pub places : (who : ℕ) → placesOf (view b .queue) who ≡ placesOf (view a .queue) who
   pub serials : (who : ℕ) → meterOf (view b) who .serials ≡ meterOf (view a) who .serials
   pub shares : (who : ℕ) → meterOf (view b) who .share ≡ meterOf (view a) who .share
 
@@ -55,8 +54,8 @@ stated s =
     tableCharge 1 walked (roleOf (s .call)) (number (outcomeOf s))
 
 pub record RefusedCall (s : CodeStep) : Type 0 where
-  pub state : Untouched (s .met) (s .outcome .state)
-  pub burnt : s .outcome .burnt ≡ stated s
+  pub state : Untouched (s .met) (s .gave)
+  pub burnt : s .gave .said .burnt ≡ stated s
 
 abbrev pub Refusals : CodeStep → Type 0
 Refusals s =
@@ -74,8 +73,8 @@ RefusedOpens s =
 -- ---- demand 2: "After every call the answer, queue, states and counters are those that the VLL rules give"
 pub record ByTheRules (s : CodeStep) : Type 0 where
   pub outcome : outcomeOf s ≡ step (pricesOf (tableOf s)) (tableOf s) (s .call)
-  pub exclusive : (r : ℕ) → r < 256 → at (s .outcome .state .cx) r ≡ cx (requests (s .outcome .state .queue)) r
-  pub shared : (r : ℕ) → r < 256 → at (s .outcome .state .cs) r ≡ cs (requests (s .outcome .state .queue)) r
+  pub exclusive : (r : ℕ) → r < 256 → at (s .gave .cx) r ≡ cx (view (s .gave) .queue) r
+  pub shared : (r : ℕ) → r < 256 → at (s .gave .cs) r ≡ cs (view (s .gave) .queue) r
 
 -- "A search with fuel to finish promotes the caller's first blocked request that conflicts with nothing ahead of it"
 abbrev pub SearchPromotes : CodeStep → Type 0
@@ -93,7 +92,7 @@ abbrev pub SearchNames : CodeStep → Type 0
 SearchNames s =
     (who : ℕ) (mode : Mode) (tenant serial : ℕ) →
     s .call ≡ Scan who →
-    s .outcome .answer ≡ Named mode tenant serial →
+    s .gave .said .answer ≡ Named mode tenant serial →
     (at : ℕ) × Promoting clause9 who (tableOf s) at (outcomeOf s)
 
 -- "and reports none only if there is none"; it is cut short only where the fuel does not pay
@@ -101,14 +100,14 @@ abbrev pub SearchReportsNone : CodeStep → Type 0
 SearchReportsNone s =
     (who : ℕ) →
     s .call ≡ Scan who →
-    s .outcome .answer ≡ Nothing →
+    s .gave .said .answer ≡ Nothing →
     LookedAtAll clause9 who (tableOf s) (outcomeOf s)
 
 abbrev pub SearchCut : CodeStep → Type 0
 SearchCut s =
     (who : ℕ) →
     s .call ≡ Scan who →
-    s .outcome .answer ≡ Refused 9 →
+    s .gave .said .answer ≡ Refused 9 →
     (at : ℕ) × CutShort clause9 who (tableOf s) at (outcomeOf s)
 
 -- ---- demand 3: the price of a call, which its caller's fuel pays and no other's
@@ -135,13 +134,13 @@ SearchCosts s =
     s .call ≡ Scan who →
     isTenant who ≡ true →
     0 < fuelOf t who →
-    s .outcome .burnt ≡ 1 + total (λ e. 1 + recordsIn e) (search clause9 t who .looked)
+    s .gave .said .burnt ≡ 1 + total (λ e. 1 + recordsIn e) (search clause9 t who .looked)
 
 abbrev pub SearchAtMost : CodeStep → Type 0
 SearchAtMost s =
     (who : ℕ) →
     s .call ≡ Scan who →
-    s .outcome .burnt ≤ 1089
+    s .gave .said .burnt ≤ 1089
 
 -- "A well-formed request from a tenant below its share, with serials left and fuel for the price, is admitted"
 abbrev pub Admission : CodeStep → Type 0

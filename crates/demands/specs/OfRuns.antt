@@ -11,7 +11,7 @@ use Rattle.rules.specs.Sound.{Each}
 use Rattle.rules.specs.Runs.{Call, isOpen}
 use Rattle.promises.specs.Fuel.{PricesPaid, Balanced, Counted}
 use Rattle.promises.specs.Names.{NamesDiffer, HasLeft, isQueued}
-use Rattle.manager.specs.declared.Outcome.{Outcome}
+use Rattle.manager.specs.declared.State.{State}
 use Rattle.manager.specs.State.{view, Sound}
 use Rattle.manager.specs.Runs.{CodeRun, Ran, RealRun, seenRun}
 use Rattle.demands.specs.OfCalls.{OfCall}
@@ -19,7 +19,7 @@ use Rattle.demands.specs.OfCalls.{OfCall}
 -- "serials ... never given twice": a name that was in the queue and has left does not come back before the next Open
 abbrev pub NamesStayAway : CodeRun → Type 0
 NamesStayAway last =
-    (who serial : ℕ) (more : List Call) (rs : List Outcome) (end : CodeRun) →
+    (who serial : ℕ) (more : List Call) (rs : List State) (end : CodeRun) →
     HasLeft who serial (seenRun last) →
     every (λ c. not (isOpen c)) more ≡ true →
     Ran last more rs end →
@@ -41,6 +41,6 @@ pub record OfRun (last : CodeRun) : Type 0 where
 
 abbrev pub EveryRun : Type 0
 EveryRun =
-    (shares : List ℕ) (first : Outcome) (cs : List Call) (rs : List Outcome) (last : CodeRun) →
+    (shares : List ℕ) (first : State) (cs : List Call) (rs : List State) (last : CodeRun) →
     RealRun shares first cs rs last →
     OfRun last

@@ -2,12 +2,10 @@
 // what no event file can: refusal 8, and shares that are not 16.
 ghost use Prim.Native.Nat.{_≤_};
 ghost use Rattle.manager.specs.State.{Sound};
-use entry::Entry;
 use libc::STDOUT_FILENO;
 use listing::Left;
 use listing::Line;
 use listing::Name;
-use manager::Outcome;
 use manager::State;
 use rules::Kind;
 
@@ -30,79 +28,79 @@ fn put(l: Line)
 }
 
 // Prints what a call came to, and hands on the state after it. Open and Pick name no tenant, and give 0.
-fn told(number: u32, kind: Kind, who: u8, o: Outcome) -> State
-    requires { ⌜ Sound (o .state) ⌝ }
+fn told(number: u32, kind: Kind, who: u8, s: State) -> State
+    requires { ⌜ Sound s ⌝ }
     ensures { λ r. ⌜ Sound r ⌝ }
 {
-    let next = o.state;
-    let answer = o.answer;
-    let left = left_of(next, who);
-    let line = listing::line_of(number, Name::Call(kind), answer, o.burnt, left);
+    let said = s.said;
+    let answer = said.answer;
+    let left = left_of(s, who);
+    let line = listing::line_of(number, Name::Call(kind), answer, said.burnt, left);
     put(line);
-    next
+    s
 }
 
 fn open(number: u32, shares: &[u8]) -> State
     ensures { λ r. ⌜ Sound r ⌝ }
 {
-    let o = manager::open::open(shares);
-    told(number, Kind::Open, 0, o)
+    let next = manager::open::open(shares);
+    told(number, Kind::Open, 0, next)
 }
 
 fn grant(number: u32, s: State, who: u8, amount: u32) -> State
     requires { ⌜ Sound s ⌝ }
     ensures { λ r. ⌜ Sound r ⌝ }
 {
-    let o = manager::grant::grant(s, who, amount);
-    told(number, Kind::Grant, who, o)
+    let next = manager::grant::grant(s, who, amount);
+    told(number, Kind::Grant, who, next)
 }
 
 fn begin(number: u32, s: State, who: u8, awaited: u8, reads: &[u8], writes: &[u8]) -> State
     requires { ⌜ Sound s ⌝ }
     ensures { λ r. ⌜ Sound r ⌝ }
 {
-    let o = manager::begin::begin(s, who, awaited, reads, writes);
-    told(number, Kind::Begin, who, o)
+    let next = manager::begin::begin(s, who, awaited, reads, writes);
+    told(number, Kind::Begin, who, next)
 }
 
 fn finish(number: u32, s: State, who: u8, serial: u16) -> State
     requires { ⌜ Sound s ⌝ }
     ensures { λ r. ⌜ Sound r ⌝ }
 {
-    let o = manager::finish::finish(s, who, serial);
-    told(number, Kind::Finish, who, o)
+    let next = manager::finish::finish(s, who, serial);
+    told(number, Kind::Finish, who, next)
 }
 
 fn recheck(number: u32, s: State, who: u8, serial: u16) -> State
     requires { ⌜ Sound s ⌝ }
     ensures { λ r. ⌜ Sound r ⌝ }
 {
-    let o = manager::recheck::recheck(s, who, serial);
-    told(number, Kind::Recheck, who, o)
+    let next = manager::recheck::recheck(s, who, serial);
+    told(number, Kind::Recheck, who, next)
 }
 
 fn scan(number: u32, s: State, who: u8) -> State
     requires { ⌜ Sound s ⌝ }
     ensures { λ r. ⌜ Sound r ⌝ }
 {
-    let o = manager::scan::scan(s, who);
-    told(number, Kind::Scan, who, o)
+    let next = manager::scan::scan(s, who);
+    told(number, Kind::Scan, who, next)
 }
 
 fn pick(number: u32, s: State) -> State
     requires { ⌜ Sound s ⌝ }
     ensures { λ r. ⌜ Sound r ⌝ }
 {
-    let o = manager::pick::pick(s);
-    told(number, Kind::Pick, 0, o)
+    let next = manager::pick::pick(s);
+    told(number, Kind::Pick, 0, next)
 }
 
 fn deliver(number: u32, s: State, who: u8, serial: u16) -> State
     requires { ⌜ Sound s ⌝ }
     ensures { λ r. ⌜ Sound r ⌝ }
 {
-    let o = manager::deliver::deliver(s, who, serial);
-    told(number, Kind::Deliver, who, o)
+    let next = manager::deliver::deliver(s, who, serial);
+    told(number, Kind::Deliver, who, next)
 }
 
 // Writes the word of a verdict.
@@ -123,38 +121,26 @@ fn verdict(at: usize, by_maps: bool, by_pairs: bool) {
     io::write_all(STDOUT_FILENO, b"\n");
 }
 
-// The map with the records that an entry writes, and with those that it reads.
-fn with_writes(map: [u64; 4], e: Entry) -> [u64; 4] {
-    let list = e.writes;
-    let n = entry::few(e.nw);
-    maps::with_list(map, list, n)
-}
-
-fn with_reads(map: [u64; 4], e: Entry) -> [u64; 4] {
-    let list = e.reads;
-    let n = entry::few(e.nr);
-    maps::with_list(map, list, n)
-}
-
 // Asks of each entry, front first, whether nothing ahead of it conflicts: what the maps over the entries ahead say, and what
 // the plain comparison says, to which the entries ahead are lent.
 fn verdicts(s: State)
     requires { ⌜ Sound s ⌝ }
 {
-    let q = s.queue;
-    let n = q.count;
+    let n = s.count;
     let mut written = maps::none();
     let mut read = maps::none();
     let mut i: usize = 0;
     while i < n {
-        let e = q.entries[i];
-        let by_maps = manager::scan::clear_by_maps(written, read, e);
+        let e = s.entries[i];
+        let by_maps = manager::scan::clear_by_maps(&written, &read, e);
         let by_pairs = manager::scan::clear_by_pairs(s, i);
         verdict(i, by_maps, by_pairs);
-        let more = with_writes(written, e);
-        written = more;
-        let seen = with_reads(read, e);
-        read = seen;
+        let nr = entry::few(e.nr);
+        let nw = entry::few(e.nw);
+        let reads = e.reads;
+        let writes = e.writes;
+        maps::add(&mut written, writes, nw);
+        maps::add(&mut read, reads, nr);
         i += 1;
     }
 }
@@ -164,10 +150,8 @@ fn round(s: State, serial: u16) -> State
     requires { ⌜ Sound s ⌝ }
     ensures { λ r. ⌜ Sound r ⌝ }
 {
-    let begun = manager::begin::begin(s, 1, 0, &[], &[]);
-    let running = begun.state;
-    let ended = manager::finish::finish(running, 1, serial);
-    ended.state
+    let running = manager::begin::begin(s, 1, 0, &[], &[]);
+    manager::finish::finish(running, 1, serial)
 }
 
 fn rounds(s: State) -> State

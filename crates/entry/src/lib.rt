@@ -13,9 +13,10 @@ ghost use Rattle.entry.specs.Entry.{noEntry, request, Tidy, Stands, Kept
 ghost use Rattle.entry.specs.Touch.{touchAt};
 use rules::Mode;
 
+// `serial` stands first: an entry then takes 24 bytes, and not 26.
 pub struct Entry {
-    pub tenant: u8,
     pub serial: u16,
+    pub tenant: u8,
     pub mode: Mode,
     pub awaited: u8,
     pub due: u8,
@@ -30,8 +31,8 @@ pub fn empty() -> Entry
     ensures { λ r. ⌜ r ≡ noEntry ⌝ }
 {
     Entry {
-        tenant: 0,
         serial: 0,
+        tenant: 0,
         mode: Mode::Free,
         awaited: 0,
         due: 0,
@@ -120,8 +121,8 @@ pub fn made(tenant: u8, serial: u16, awaited: u8, reads: &[u8], writes: &[u8]) -
     let rs = kept(reads);
     let ws = kept(writes);
     Entry {
-        tenant: tenant,
         serial: serial,
+        tenant: tenant,
         mode: Mode::Blocked,
         awaited: awaited,
         due: awaited,
@@ -160,8 +161,8 @@ fn changed(e: Entry, mode: Mode, due: u8) -> Entry
     let reads = e.reads;
     let writes = e.writes;
     Entry {
-        tenant: e.tenant,
         serial: e.serial,
+        tenant: e.tenant,
         mode: mode,
         awaited: e.awaited,
         due: due,

@@ -10,8 +10,10 @@ use Rattle.rules.specs.Table.{newMeter, fresh}
 use Rattle.meter.specs.declared.Meter.{Meter}
 use Rattle.meter.specs.View.{meterView}
 use Rattle.counters.proofs.Laws.{counts-none}
-use Rattle.queue.specs.declared.Queue.{Queue}
-use Rattle.queue.specs.Queue.{Holds}
+use Rattle.entry.specs.declared.Entry.{Entry}
+use Rattle.entry.specs.Entry.{noEntry}
+use Rattle.queue.proofs.Views.{none-holds}
+use Rattle.manager.specs.declared.Said.{Said}
 use Rattle.manager.specs.State.{Becomes}
 use Rattle.manager.proofs.Entries.{queue-becomes}
 
@@ -37,6 +39,7 @@ metered-all {i} {shares} {all} h le six =
     let b : length shares ≤ i = omega arith in
     ap (map meterView) (sym (take-all i all a)) ∙ h .first ∙ ap (map newMeter) (take-all i shares b)
 
-pub fresh-becomes : (shares : List ℕ) (all : List Meter) {q : Queue} → map meterView all ≡ map newMeter shares → Holds [] q → Becomes (fresh shares) (record { cx = replicate 256 0; cs = replicate 256 0; meters = all; queue = q })
+pub fresh-becomes : (shares : List ℕ) (all : List Meter) (unused : Entry) (said : Said) → map meterView all ≡ map newMeter shares → unused ≡ noEntry → Becomes (fresh shares) (record { cx = replicate 256 0; cs = replicate 256 0; meters = all; count = 0; entries = replicate 64 unused; said = said })
 unfolding fresh
-fresh-becomes shares all same h = rw (← same) (queue-becomes all h (counts-none (λ e. e .writes)) (counts-none (λ e. e .reads)))
+fresh-becomes shares all unused said same e =
+    rw (← same) (queue-becomes all (none-holds unused e) (counts-none (λ a. a .writes)) (counts-none (λ a. a .reads)))

@@ -1,4 +1,4 @@
--- The view of a sound state says all of it, so any two results that a contract allows are equal.
+-- The view of a sound state and what it says are all of it, so any two results that a contract allows are equal.
 use Prim.Native.Nat.{ℕ, zero, suc, _-_, _≤_, _<_}
 use mathlib.Core.Path.{_≡_, refl, sym, ap, subst, _∙_}
 use mathlib.Core.List.{List, [], _∷_, _++_, map}
@@ -8,17 +8,17 @@ use lib.ListN.{length, getD, take, drop, replicate, take-append-drop}
 use lib.Seq.{ext-getD, length-take-le}
 use Rattle.rules.specs.Request.{Request}
 use Rattle.rules.specs.Table.{Meter as LawMeter, Table}
-use Rattle.rules.specs.Calls.{Outcome as LawOutcome}
+use Rattle.rules.specs.Calls.{Outcome}
 use Rattle.meter.specs.declared.Meter.{Meter}
 use Rattle.meter.specs.View.{meterView}
 use Rattle.entry.specs.declared.Entry.{Entry}
 use Rattle.entry.specs.Entry.{request, noEntry, blank, Tidy}
 use Rattle.counters.specs.Counters.{Counts}
-use Rattle.queue.specs.declared.Queue.{Queue}
-use Rattle.queue.specs.Queue.{requests}
+use Rattle.queue.specs.Queue.{Queue, requests}
 use Rattle.queue.proofs.Views.{requests-length}
+use Rattle.manager.specs.declared.Said.{Said}
 use Rattle.manager.specs.declared.State.{State}
-use Rattle.manager.specs.declared.Outcome.{Outcome}
+use Rattle.manager.specs.State.{queueOf, view}
 use Rattle.manager.specs.Tight.{SoundValue, ViewTells, Allowed, OneResult}
 
 -- ---- the meters, read back from the table's
@@ -88,9 +88,9 @@ entries-back (suc n) (e ∷ es) h all =
 abbrev queueBack : List Request → Queue
 queueBack l = record { count = length l; entries = map entryBack l ++ replicate (64 - length l) noEntry }
 
-queue-back : (s : State) → SoundValue s → queueBack (requests (s .queue)) ≡ s .queue
+queue-back : (s : State) → SoundValue s → queueBack (view s .queue) ≡ queueOf s
 queue-back s v =
-    let q = s .queue in
+    let q = queueOf s in
     let n = q .count in
     let neat = v .sound .tied .neat in
     let within : n ≤ length (q .entries) = omega (arith, v .sized .slots, neat .within) in
@@ -108,22 +108,22 @@ counts-unique of c d l m n x y =
 
 -- ---- the state
 pub view-injective : ViewTells
-view-injective s u v w same =
-    let list : requests (s .queue) ≡ requests (u .queue) = ap (λ (t : Table). t .queue) same in
+view-injective s u v w same words =
+    let list : view s .queue ≡ view u .queue = ap (λ (t : Table). t .queue) same in
     let tied = v .sound .tied in
-    let writers : s .cx ≡ u .cx = counts-unique (λ e. e .writes) (s .cx) (u .cx) (requests (u .queue)) (v .sized .writers) (w .sized .writers) (subst (Counts (λ e. e .writes) (s .cx)) list (tied .writers)) (w .sound .tied .writers) in
-    let readers : s .cs ≡ u .cs = counts-unique (λ e. e .reads) (s .cs) (u .cs) (requests (u .queue)) (v .sized .readers) (w .sized .readers) (subst (Counts (λ e. e .reads) (s .cs)) list (tied .readers)) (w .sound .tied .readers) in
+    let writers : s .cx ≡ u .cx = counts-unique (λ e. e .writes) (s .cx) (u .cx) (view u .queue) (v .sized .writers) (w .sized .writers) (subst (Counts (λ e. e .writes) (s .cx)) list (tied .writers)) (w .sound .tied .writers) in
+    let readers : s .cs ≡ u .cs = counts-unique (λ e. e .reads) (s .cs) (u .cs) (view u .queue) (v .sized .readers) (w .sized .readers) (subst (Counts (λ e. e .reads) (s .cs)) list (tied .readers)) (w .sound .tied .readers) in
     let meters : s .meters ≡ u .meters = sym (meters-back (s .meters)) ∙ ap (λ (t : Table). map meterBack (t .meters)) same ∙ meters-back (u .meters) in
-    let queue : s .queue ≡ u .queue = sym (queue-back s v) ∙ ap queueBack list ∙ queue-back u w in
-    λ i. record { cx = writers i; cs = readers i; meters = meters i; queue = queue i }
+    let queue : queueOf s ≡ queueOf u = sym (queue-back s v) ∙ ap queueBack list ∙ queue-back u w in
+    λ i. record { cx = writers i; cs = readers i; meters = meters i; count = queue i .count; entries = queue i .entries; said = words i }
 
 -- ---- a result
-did-unique : {o : LawOutcome} {r r' : Outcome} → Allowed o r → Allowed o r' → r ≡ r'
+did-unique : {o : Outcome} {r r' : State} → Allowed o r → Allowed o r' → r ≡ r'
 did-unique {o} {r} {r'} a b =
-    let state : r .state ≡ r' .state = view-injective (r .state) (r' .state) (record { sized = a .sized; sound = a .did .sound }) (record { sized = b .sized; sound = b .did .sound }) (a .did .table ∙ sym (b .did .table)) in
-    let answer : r .answer ≡ r' .answer = a .did .answer ∙ sym (b .did .answer) in
-    let burnt : r .burnt ≡ r' .burnt = a .did .burnt ∙ sym (b .did .burnt) in
-    λ i. record { state = state i; answer = answer i; burnt = burnt i }
+    let answer : r .said .answer ≡ r' .said .answer = a .did .answer ∙ sym (b .did .answer) in
+    let burnt : r .said .burnt ≡ r' .said .burnt = a .did .burnt ∙ sym (b .did .burnt) in
+    let said : r .said ≡ r' .said = λ i. record { answer = answer i; burnt = burnt i } in
+    view-injective r r' (record { sized = a .sized; sound = a .did .sound }) (record { sized = b .sized; sound = b .did .sound }) (a .did .table ∙ sym (b .did .table)) said
 
 pub one-result : OneResult
 one-result t c r r' = did-unique

@@ -14,7 +14,7 @@ use Rattle.rules.specs.Records.{member}
 use Rattle.rules.specs.Request.{Request, nobody, size, conflictsAny, isBlocked}
 use Rattle.rules.specs.Table.{Meter as LawMeter, spent}
 use Rattle.rules.specs.Prices.{clause9, looks}
-use Rattle.rules.specs.Scan.{found, scanWalk, qualifies, Maps, noRecords, mapped, mapsOver, clearBy}
+use Rattle.rules.specs.Scan.{found, nothing, short, scanWalk, qualifies, Maps, noRecords, mapped, mapsOver, clearBy}
 use Rattle.rules.proofs.Lists.{some-cong}
 use Rattle.rules.proofs.Prices.{looks-last}
 use Rattle.rules.proofs.Steps.{list-step}
@@ -22,7 +22,6 @@ use Rattle.rules.proofs.Verdicts.{maps-conflicts}
 use Rattle.maps.specs.Maps.{Empty, Grown}
 use Rattle.meter.specs.declared.Meter.{Meter}
 use Rattle.meter.specs.View.{meterView}
-use Rattle.manager.specs.declared.scan.Found.the-variants.{At, Nobody, Short}
 use Rattle.manager.specs.Search.{mapsOf, Looked}
 
 -- ---- the maps
@@ -50,6 +49,10 @@ maps-more q e s g h =
     (record { written = λ k. g .each k ∙ ap (λ (b : Bool). b || member k (e .writes)) (s .written k); read = λ k. h .each k ∙ ap (λ (b : Bool). b || member k (e .reads)) (s .read k) })
 
 -- ---- the walk
+-- an entry that the walk stops at, as the code tests it: the caller's, Blocked, and clear by the maps
+abbrev pub fits : ℕ → List ℕ → List ℕ → Request → Bool
+fits who written read e = (eqb (e .tenant) who && isBlocked (e .mode)) && clearBy (mapsOf written read) e
+
 pub record Walking (who : ℕ) (m : Meter) (l : List Request) (i : ℕ) (left : Meter) (burnt : ℕ) (written read : List ℕ) : Type 0 where
   pub rest : scanWalk clause9 who (m .fuel) [] l ≡ scanWalk clause9 who (left .fuel) (take i l) (drop i l)
   pub cost : burnt ≡ looks clause9 (take i l)
@@ -68,12 +71,12 @@ walking-none who m l w r = record {
 }
 
 module _ {who i burnt : ℕ} {m left : Meter} {l : List Request} {written read : List ℕ} (s : Walking who m l i left burnt written read) where
-  pub walking-end : length l ≤ i → Looked (scanWalk clause9 who (m .fuel) [] l) m (record { found = Nobody; meter = left; burnt = burnt })
+  pub walking-end : length l ≤ i → Looked (scanWalk clause9 who (m .fuel) [] l) m nothing left burnt
   unfolding scanWalk
   walking-end past =
       let none : drop i l ≡ [] = drop-of-length-le l past in
       let w = s .rest ∙ ap (scanWalk clause9 who (left .fuel) (take i l)) none in
-      rw w (record { end = refl; burnt = s .cost; paid = s .paid ∙ ap (spent (meterView m)) (s .cost) })
+      rw w (record { ends = refl; burns = s .cost; paid = s .paid ∙ ap (spent (meterView m)) (s .cost) })
 
   -- the entry of the turn, which has n records
   module _ (e : Request) (there : i < length l) (is : getD l i nobody ≡ e) (n : ℕ) (sized : n ≡ size e) where
@@ -87,14 +90,14 @@ module _ {who i burnt : ℕ} {m left : Meter} {l : List Request} {written read :
     on = s .rest ∙ ap (scanWalk clause9 who (left .fuel) (take i l)) here
 
     -- the fuel left does not pay for it
-    pub walking-short : left .fuel < 1 + n → Looked (scanWalk clause9 who (m .fuel) [] l) m (record { found = Short; meter = left; burnt = burnt })
+    pub walking-short : left .fuel < 1 + n → Looked (scanWalk clause9 who (m .fuel) [] l) m short left burnt
     unfolding scanWalk
     walking-short poor =
         let cut : left .fuel < 1 + size e = omega arith in
-        rw (on, lt-ltb (left .fuel) (1 + size e) cut) (record { end = refl; burnt = s .cost; paid = s .paid ∙ ap (spent (meterView m)) (s .cost) })
+        rw (on, lt-ltb (left .fuel) (1 + size e) cut) (record { ends = refl; burns = s .cost; paid = s .paid ∙ ap (spent (meterView m)) (s .cost) })
 
     -- it is paid for
-    module _ (rich : 1 + n ≤ left .fuel) (after : Meter) (pays : meterView after ≡ spent (meterView left) (1 + n)) (fits : Bool) (told : fits ≡ ((eqb (e .tenant) who && isBlocked (e .mode)) && clearBy (mapsOf written read) e)) where
+    module _ (rich : 1 + n ≤ left .fuel) (after : Meter) (pays : meterView after ≡ spent (meterView left) (1 + n)) where
       spends : meterView after ≡ spent (meterView m) (burnt + (1 + n))
       spends =
           let less : m .fuel - burnt - (1 + n) ≡ m .fuel - (burnt + (1 + n)) = omega arith in
@@ -103,18 +106,18 @@ module _ {who i burnt : ℕ} {m left : Meter} {l : List Request} {written read :
       costs : burnt + (1 + n) ≡ looks clause9 (take i l ++ e ∷ [])
       costs = omega (arith, s .cost, looks-last clause9 (take i l) e)
 
-      verdict : qualifies who (take i l) e ≡ fits
+      verdict : qualifies who (take i l) e ≡ fits who written read e
       verdict =
           let clear : clearBy (mapsOf written read) e ≡ not (conflictsAny (take i l) e) = clear-same (s .maps) e ∙ maps-conflicts (take i l) e in
-          sym (told ∙ ap (λ (b : Bool). (eqb (e .tenant) who && isBlocked (e .mode)) && b) clear)
+          sym (ap (λ (b : Bool). (eqb (e .tenant) who && isBlocked (e .mode)) && b) clear)
 
-      pub walking-found : fits ≡ true → Looked (scanWalk clause9 who (m .fuel) [] l) m (record { found = At i; meter = after; burnt = burnt + (1 + n) })
+      pub walking-found : fits who written read e ≡ true → Looked (scanWalk clause9 who (m .fuel) [] l) m (found i) after (burnt + (1 + n))
       unfolding scanWalk
       walking-found sure =
           let place : i ≡ length (take i l) = sym (length-take i l ∙ let k : min i (length l) ≡ i = omega arith in k) in
-          rw (on, le-ltb (left .fuel) (1 + size e) (omega arith), verdict ∙ sure) (record { end = ap found place; burnt = costs; paid = spends ∙ ap (spent (meterView m)) costs })
+          rw (on, le-ltb (left .fuel) (1 + size e) (omega arith), verdict ∙ sure) (record { ends = ap found place; burns = costs; paid = spends ∙ ap (spent (meterView m)) costs })
 
-      pub walking-more : {w r : List ℕ} → fits ≡ false → Grown written (e .writes) w → Grown read (e .reads) r → Walking who m l (i + 1) after (burnt + (1 + n)) w r
+      pub walking-more : {w r : List ℕ} → fits who written read e ≡ false → Grown written (e .writes) w → Grown read (e .reads) r → Walking who m l (i + 1) after (burnt + (1 + n)) w r
       unfolding scanWalk
       walking-more {w} {r} no-fit g h =
           let fuel : after .fuel ≡ left .fuel - (1 + size e) = ap (λ (a : LawMeter). a .fuel) pays ∙ ap (λ (k : ℕ). left .fuel - (1 + k)) sized in

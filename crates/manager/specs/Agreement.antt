@@ -9,8 +9,7 @@ use Rattle.rules.specs.Scan.{clearBy}
 use Rattle.maps.specs.Maps.{Empty, Grown}
 use Rattle.entry.specs.declared.Entry.{Entry}
 use Rattle.entry.specs.Entry.{request}
-use Rattle.queue.specs.declared.Queue.{Queue}
-use Rattle.queue.specs.Queue.{requests}
+use Rattle.queue.specs.Queue.{Queue, requests}
 use Rattle.manager.specs.Search.{mapsOf}
 
 -- The law book's maps and its plain comparison do so (`MapsTell`); here the code's two functions, `clear_by_maps` and

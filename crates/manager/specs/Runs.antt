@@ -6,67 +6,66 @@ use mathlib.Core.List.{List, [], _∷_, map}
 use Rattle.rules.specs.Lists.{if_then_else_}
 use Rattle.rules.specs.Table.{Table}
 use Rattle.rules.specs.Prices.{Prices, clause9, pricesOf}
-use Rattle.rules.specs.Calls.{Outcome as LawOutcome, openOf}
+use Rattle.rules.specs.Calls.{Outcome, openOf}
 use Rattle.rules.specs.Sound.{Each}
 use Rattle.rules.specs.Runs.{Call, Step, Run, step, isOpen, opened, runOf}
 use Rattle.manager.specs.declared.State.{State}
-use Rattle.manager.specs.declared.Outcome.{Outcome}
 use Rattle.manager.specs.State.{view, Sound, Did}
 
 -- the contract of a call, whichever of the functions it is
-abbrev pub DidCall : State → Call → Outcome → Type 0
+abbrev pub DidCall : State → Call → State → Type 0
 DidCall s c r = Did r (step (pricesOf (view s)) (view s) c)
 
--- a call as the code made it: the state that it was given, the call, and what it gave back
+-- a call as the code made it: the state that it was given, the call, and the state that it gave back
 pub record CodeStep : Type 0 where
   pub met : State
   pub call : Call
-  pub outcome : Outcome
+  pub gave : State
 
 -- the state now, and the steps since the last opening, the latest first: as the law book's Run
 pub record CodeRun : Type 0 where
   pub state : State
   pub steps : List CodeStep
 
-abbrev pub codeOpened : Outcome → CodeRun
-codeOpened r = record { state = r .state; steps = [] }
+abbrev pub codeOpened : State → CodeRun
+codeOpened r = record { state = r; steps = [] }
 
-abbrev pub codeAfter : CodeRun → Call → Outcome → CodeRun
+abbrev pub codeAfter : CodeRun → Call → State → CodeRun
 codeAfter run c r = record {
-  state = r .state;
-  steps = if isOpen c then [] else (record { met = run .state; call = c; outcome = r } ∷ run .steps);
+  state = r;
+  steps = if isOpen c then [] else (record { met = run .state; call = c; gave = r } ∷ run .steps);
 }
 
--- from one run to another by these calls, which gave these outcomes: of each, the contract holds
-pub data Ran : CodeRun → List Call → List Outcome → CodeRun → Type 0 where
+-- from one run to another by these calls, which gave these states: of each, the contract holds
+pub data Ran : CodeRun → List Call → List State → CodeRun → Type 0 where
   uncalled : {run : CodeRun} → Ran run [] [] run
   called :
-      {run last : CodeRun} {cs : List Call} {rs : List Outcome} (c : Call) (r : Outcome) →
+      {run last : CodeRun} {cs : List Call} {rs : List State} (c : Call) (r : State) →
       DidCall (run .state) c r →
       Ran (codeAfter run c r) cs rs last →
       Ran run (c ∷ cs) (r ∷ rs) last
 
 -- an opening, and then such calls
-pub record RealRun (shares : List ℕ) (first : Outcome) (cs : List Call) (rs : List Outcome) (last : CodeRun) : Type 0 where
+pub record RealRun (shares : List ℕ) (first : State) (cs : List Call) (rs : List State) (last : CodeRun) : Type 0 where
   pub opening : Did first (openOf shares)
   pub calls : Ran (codeOpened first) cs rs last
 
 -- ---- how the law book sees the same: through the view
-abbrev pub seen : Outcome → LawOutcome
-seen r = record { table = view (r .state); answer = r .answer; burnt = r .burnt }
+abbrev pub seen : State → Outcome
+seen r = record { table = view r; answer = r .said .answer; burnt = r .said .burnt }
 
 abbrev pub seenStep : CodeStep → Step
-seenStep s = record { met = view (s .met); call = s .call; outcome = seen (s .outcome) }
+seenStep s = record { met = view (s .met); call = s .call; outcome = seen (s .gave) }
 
 abbrev pub seenRun : CodeRun → Run
 seenRun run = record { table = view (run .state); steps = map seenStep (run .steps) }
 
 -- what the law book's calls give one after the other, openings included
-unfoldable pub outcomesOf : Prices → Table → List Call → List LawOutcome
+unfoldable pub outcomesOf : Prices → Table → List Call → List Outcome
 outcomesOf p t [] = []
 outcomesOf p t (c ∷ cs) = step p t c ∷ outcomesOf p (step p t c .table) cs
 
-pub record Faithful (shares : List ℕ) (first : Outcome) (cs : List Call) (rs : List Outcome) (last : CodeRun) : Type 0 where
+pub record Faithful (shares : List ℕ) (first : State) (cs : List Call) (rs : List State) (last : CodeRun) : Type 0 where
   -- the opening itself
   pub opening : seen first ≡ openOf shares
   -- the law book's run, of which the promises speak
@@ -74,13 +73,13 @@ pub record Faithful (shares : List ℕ) (first : Outcome) (cs : List Call) (rs :
   -- each call's table, answer and units burnt, in order
   pub outcomes : map seen rs ≡ outcomesOf clause9 (openOf shares .table) cs
   -- every state on the way
-  pub first-sound : Sound (first .state)
-  pub states-sound : Each (λ r. Sound (r .state)) rs
+  pub first-sound : Sound first
+  pub states-sound : Each (λ r. Sound r) rs
   pub last-sound : Sound (last .state)
 
 -- what the promises say of the law book's runs, they say of the code's
 abbrev pub RunsFaithfully : Type 0
 RunsFaithfully =
-    (shares : List ℕ) (first : Outcome) (cs : List Call) (rs : List Outcome) (last : CodeRun) →
+    (shares : List ℕ) (first : State) (cs : List Call) (rs : List State) (last : CodeRun) →
     RealRun shares first cs rs last →
     Faithful shares first cs rs last

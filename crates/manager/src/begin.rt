@@ -1,23 +1,24 @@
 // Begin: a request asks for all its locks at once. Its price is paid now, and that of its release with it.
 ghost use mathlib.Core.Path.{_≡_};
 ghost use Prim.Native.Nat.{_+_, _*_, _≤_};
+ghost use lib.Dec.{leb};
 ghost use lib.ListN.{length};
 ghost use Rattle.rules.specs.Lists.{if_then_else_};
 ghost use Rattle.rules.specs.Request.{promoted};
 ghost use Rattle.rules.specs.Prices.{pricesOf};
 ghost use Rattle.rules.specs.Refusals.{firstOf, beginRows};
-ghost use Rattle.rules.specs.Counters.{figure2};
 ghost use Rattle.rules.specs.Calls.{asked, beginOf};
 ghost use Rattle.entry.specs.Entry.{request, Tidy, Stands};
-ghost use Rattle.counters.specs.Counters.{at};
 ghost use Rattle.manager.specs.State.{view, Sound, Did};
-use super::meters;
+ghost use Rattle.manager.specs.Rows.{formRows, meansRows, beginBy};
+ghost use Rattle.manager.specs.Deeds.{Joined};
 use super::places;
 use super::refusal;
 use super::tenants;
-use crate::Outcome;
+use crate::Said;
 use crate::State;
 use entry::Entry;
+use meter::Meter;
 
 // The price of a request: 1 + n now and 1 + n for the release.
 fn price(reads: &[u8], writes: &[u8]) -> u32
@@ -29,18 +30,10 @@ fn price(reads: &[u8], writes: &[u8]) -> u32
     2 + 2 * (n as u32)
 }
 
-// Refusals 1 to 9 in number order.
-fn refusal(s: State, who: u8, awaited: u8, reads: &[u8], writes: &[u8]) -> u8
-    requires { ⌜ Sound s ⌝ }
-    ensures { λ r. ⌜ r ≡ firstOf (beginRows (pricesOf (view s)) (view s) (asked (view s) who awaited (now (reads .entry)) (now (writes .entry)))) ⌝ }
+// Refusals 3 to 6, which what is asked for tells.
+fn form(awaited: u8, reads: &[u8], writes: &[u8]) -> u8
+    ensures { λ r. ⌜ r ≡ firstOf (formRows awaited (now (reads .entry)) (now (writes .entry))) ⌝ }
 {
-    if !tenants::is_tenant(who) {
-        return 1;
-    }
-    let m = meters::meter_of(s, who);
-    if m.fuel == 0 {
-        return 2;
-    }
     if entry::too_many(reads) {
         return 3;
     }
@@ -59,76 +52,113 @@ fn refusal(s: State, who: u8, awaited: u8, reads: &[u8], writes: &[u8]) -> u8
     if 15 < awaited {
         return 6;
     }
-    let q = s.queue;
-    let held = queue::places(q, who);
+    0
+}
+
+// Refusals 7 to 9, which the tenant's meter and the places that it holds tell.
+fn means(m: Meter, held: usize, cost: u32) -> u8
+    ensures { λ r. ⌜ r ≡ firstOf (meansRows (m .fuel) (m .serials) (leb (m .share) held) cost) ⌝ }
+{
     if (m.share as usize) <= held {
         return 7;
     }
     if 65535 <= m.serials {
         return 8;
     }
-    if m.fuel < price(reads, writes) {
+    if m.fuel < cost {
         return 9;
     }
     0
 }
 
-// The entry that joins: Blocked where the counters, its own count included, show a clash, and promoted where they do not.
-fn admitted(cx: [u8; 256], cs: [u8; 256], e: Entry) -> Entry
-    requires { ⌜ Tidy e ⌝ }
-    ensures { λ r. ⌜ Stands (if figure2 (at cx) (at cs) (request e) then request e else promoted (request e)) r ⌝ }
+// Refusals 1 to 9 in number order.
+fn refusal(tenant: bool, m: Meter, held: usize, awaited: u8, reads: &[u8], writes: &[u8]) -> u8
+    ensures { λ r. ⌜ r ≡ firstOf (beginBy tenant (m .fuel) (m .serials) (leb (m .share) held) awaited (now (reads .entry)) (now (writes .entry))) ⌝ }
 {
-    if counters::clashes(cx, cs, e) {
+    if !tenant {
+        return 1;
+    }
+    if m.fuel == 0 {
+        return 2;
+    }
+    let number = form(awaited, reads, writes);
+    if number != 0 {
+        return number;
+    }
+    let cost = price(reads, writes);
+    means(m, held, cost)
+}
+
+// The entry that joins: Blocked where the counters show a clash, and promoted where they do not.
+fn admitted(clash: bool, e: Entry) -> Entry
+    requires { ⌜ Tidy e ⌝ }
+    ensures { λ r. ⌜ Stands (if clash then request e else promoted (request e)) r ⌝ }
+{
+    if clash {
         return e;
     }
     entry::promoted(e)
 }
 
-// A request without a refusal joins the back, and pays.
-fn admit(s: State, who: u8, awaited: u8, reads: &[u8], writes: &[u8]) -> Outcome
+// The request joins the back, its own counts are in when the counters are asked, and the tenant pays. Where the call was
+// refused nothing moves.
+fn joined(s: State, number: u8, who: u8, awaited: u8, reads: &[u8], writes: &[u8]) -> State
     requires { ⌜ Sound s ⌝ }
-    requires { ⌜ firstOf (beginRows (pricesOf (view s)) (view s) (asked (view s) who awaited (now reads) (now writes))) ≡ 0 ⌝ }
-    ensures { λ r. ⌜ Did r (beginOf (pricesOf (view s)) (view s) who awaited (now (reads .entry)) (now (writes .entry))) ⌝ }
+    requires { ⌜ (number ≡ 0 → firstOf (beginRows (pricesOf (view s)) (view s) (asked (view s) who awaited (now reads) (now writes))) ≡ 0) ⌝ }
+    ensures { λ r. ⌜ Joined s number who awaited (now (reads .entry)) (now (writes .entry)) r ⌝ }
 {
-    let m = meters::meter_of(s, who);
-    let named = meter::numbered(m);
-    let cost = price(reads, writes);
-    let paid = meter::charged(named, cost);
-    let e = entry::made(who, named.serials, awaited, reads, writes);
-    let nr = entry::few(e.nr);
-    let nw = entry::few(e.nw);
-    let read = e.reads;
-    let written = e.writes;
-    let cx = s.cx;
-    let cs = s.cs;
-    let x = counters::raised(cx, written, nw);
-    let y = counters::raised(cs, read, nr);
-    let joins = admitted(x, y, e);
-    let q = s.queue;
-    let next = queue::pushed(q, joins);
-    let all = s.meters;
-    let put = meters::put(all, who, paid);
-    let answer = places::named(joins);
-    let state = State {
-        cx: x,
-        cs: y,
-        meters: put,
-        queue: next,
-    };
-    Outcome {
-        state: state,
-        answer: answer,
-        burnt: cost,
+    let mut n = s;
+    if number == 0 {
+        let i = (who - 1) as usize;
+        let m = n.meters[i];
+        let given = meter::numbered(m);
+        let cost = price(reads, writes);
+        let paid = meter::charged(given, cost);
+        n.meters[i] = paid;
+        let e = entry::made(who, given.serials, awaited, reads, writes);
+        let nr = entry::few(e.nr);
+        let nw = entry::few(e.nw);
+        let read = e.reads;
+        let written = e.writes;
+        counters::raise(&mut n.cx, written, nw);
+        counters::raise(&mut n.cs, read, nr);
+        let clash = counters::clashes(&n.cx, &n.cs, e);
+        let joins = admitted(clash, e);
+        let at = n.count;
+        n.entries[at] = joins;
+        n.count = at + 1;
+        let answer = places::named(joins);
+        let said = Said {
+            answer: answer,
+            burnt: cost,
+        };
+        n.said = said;
     }
+    n
 }
 
-pub fn begin(s: State, who: u8, awaited: u8, reads: &[u8], writes: &[u8]) -> Outcome
+pub fn begin(s: State, who: u8, awaited: u8, reads: &[u8], writes: &[u8]) -> State
     requires { ⌜ Sound s ⌝ }
     ensures { λ r. ⌜ Did r (beginOf (pricesOf (view s)) (view s) who awaited (now (reads .entry)) (now (writes .entry))) ⌝ }
 {
-    let number = refusal(s, who, awaited, reads, writes);
-    if number != 0 {
-        return refusal::refused(s, who, number);
+    let all = s.meters;
+    let m = tenants::meter_of(all, who);
+    let share = m.share as usize;
+    let count = s.count;
+    // the places that the tenant holds, counted no further than its share
+    let mut held: usize = 0;
+    let mut i: usize = 0;
+    while i < count {
+        if share <= held {
+            break;
+        }
+        if s.entries[i].tenant == who {
+            held += 1;
+        }
+        i += 1;
     }
-    admit(s, who, awaited, reads, writes)
+    let tenant = tenants::is_tenant(who);
+    let number = refusal(tenant, m, held, awaited, reads, writes);
+    let paid = refusal::settled(s, who, number);
+    joined(paid, number, who, awaited, reads, writes)
 }

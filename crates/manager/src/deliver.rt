@@ -1,56 +1,61 @@
 // Deliver: one remote answer fewer is due. A Blocked entry stays Blocked.
 ghost use mathlib.Core.Path.{_≡_};
-ghost use Rattle.rules.specs.Refusals.{firstOf, deliverRows};
+ghost use Rattle.rules.specs.Refusals.{firstOf};
 ghost use Rattle.rules.specs.Calls.{deliverOf};
 ghost use Rattle.manager.specs.State.{view, Sound, Did};
+ghost use Rattle.manager.specs.Rows.{deliverBy};
 use super::places;
 use super::tenants;
-use crate::Outcome;
+use crate::Said;
 use crate::State;
 use rules::Answer;
 
 // Refusals in the order 1, 10, 12.
-fn refusal(s: State, who: u8, serial: u16) -> u8
-    requires { ⌜ Sound s ⌝ }
-    ensures { λ r. ⌜ r ≡ firstOf (deliverRows (view s) who serial) ⌝ }
+fn refusal(tenant: bool, absent: bool, due: u8) -> u8
+    ensures { λ r. ⌜ r ≡ firstOf (deliverBy tenant absent due) ⌝ }
 {
-    if !tenants::is_tenant(who) {
+    if !tenant {
         return 1;
     }
-    let q = s.queue;
-    let n = q.count;
-    let at = queue::find(q, who, serial);
-    if n <= at {
+    if absent {
         return 10;
     }
-    let e = queue::entry_at(q, at);
-    if e.due == 0 {
+    if due == 0 {
         return 12;
     }
     0
 }
 
-pub fn deliver(s: State, who: u8, serial: u16) -> Outcome
+pub fn deliver(s: State, who: u8, serial: u16) -> State
     requires { ⌜ Sound s ⌝ }
     ensures { λ r. ⌜ Did r (deliverOf (view s) who serial) ⌝ }
 {
-    let number = refusal(s, who, serial);
-    if number != 0 {
-        return Outcome {
-            state: s,
-            answer: Answer::Refused(number),
-            burnt: 0,
-        };
+    let mut n = s;
+    let count = n.count;
+    let mut at: usize = 0;
+    while at < count {
+        if n.entries[at].tenant == who && n.entries[at].serial == serial {
+            break;
+        }
+        at += 1;
     }
-    let q = s.queue;
-    let at = queue::find(q, who, serial);
-    let e = queue::entry_at(q, at);
-    let d = entry::delivered(e);
-    let next = places::changed(s, at, d);
-    let answer = places::named(d);
-    Outcome {
-        state: next,
+    let tenant = tenants::is_tenant(who);
+    let mut due: u8 = 0;
+    if at < count {
+        due = n.entries[at].due;
+    }
+    let number = refusal(tenant, count <= at, due);
+    let mut answer = Answer::Refused(number);
+    if number == 0 {
+        let e = n.entries[at];
+        let d = entry::delivered(e);
+        n.entries[at] = d;
+        answer = places::named(d);
+    }
+    let said = Said {
         answer: answer,
         burnt: 0,
-    }
+    };
+    n.said = said;
+    n
 }

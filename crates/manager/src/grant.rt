@@ -1,48 +1,51 @@
 // Grant: adds fuel.
 ghost use mathlib.Core.Path.{_≡_};
-ghost use Rattle.rules.specs.Refusals.{firstOf, grantRows};
+ghost use Prim.Native.Nat.{_≤_};
+ghost use Rattle.rules.specs.Table.{mostFuel};
+ghost use Rattle.rules.specs.Refusals.{firstOf};
 ghost use Rattle.rules.specs.Calls.{grantOf};
 ghost use Rattle.manager.specs.State.{view, Sound, Did};
-use super::meters;
+ghost use Rattle.manager.specs.Rows.{grantBy};
 use super::tenants;
-use crate::Outcome;
+use crate::Said;
 use crate::State;
 use rules::Answer;
 
 // Refusals in the order 1, 13.
-fn refusal(s: State, who: u8, amount: u32) -> u8
-    requires { ⌜ Sound s ⌝ }
-    ensures { λ r. ⌜ r ≡ firstOf (grantRows (view s) who amount) ⌝ }
+fn refusal(tenant: bool, fuel: u32, amount: u32) -> u8
+    requires { ⌜ fuel ≤ mostFuel ⌝ }
+    ensures { λ r. ⌜ r ≡ firstOf (grantBy tenant fuel amount) ⌝ }
 {
-    if !tenants::is_tenant(who) {
+    if !tenant {
         return 1;
     }
-    let m = meters::meter_of(s, who);
-    let room = 1_000_000_000 - m.fuel;
+    let room = 1_000_000_000 - fuel;
     if room < amount {
         return 13;
     }
     0
 }
 
-pub fn grant(s: State, who: u8, amount: u32) -> Outcome
+pub fn grant(s: State, who: u8, amount: u32) -> State
     requires { ⌜ Sound s ⌝ }
     ensures { λ r. ⌜ Did r (grantOf (view s) who amount) ⌝ }
 {
-    let number = refusal(s, who, amount);
-    if number != 0 {
-        return Outcome {
-            state: s,
-            answer: Answer::Refused(number),
-            burnt: 0,
-        };
+    let mut n = s;
+    let tenant = tenants::is_tenant(who);
+    let all = n.meters;
+    let m = tenants::meter_of(all, who);
+    let number = refusal(tenant, m.fuel, amount);
+    let mut answer = Answer::Refused(number);
+    if number == 0 {
+        let i = (who - 1) as usize;
+        let more = meter::granted(m, amount);
+        n.meters[i] = more;
+        answer = Answer::Ok;
     }
-    let m = meters::meter_of(s, who);
-    let n = meter::granted(m, amount);
-    let next = meters::with_meter(s, who, n);
-    Outcome {
-        state: next,
-        answer: Answer::Ok,
+    let said = Said {
+        answer: answer,
         burnt: 0,
-    }
+    };
+    n.said = said;
+    n
 }

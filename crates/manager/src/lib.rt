@@ -1,14 +1,13 @@
-// The lock manager: eight calls on a state by value. Each answers with the state after it, its answer and the units burnt,
-// and its contract says that these are the law book's.
+// The lock manager: eight calls on a state by value. Each gives the state after it, in which its answer and the units burnt
+// are said, and its contract says that these are the law book's.
+use entry::Entry;
 use meter::Meter;
-use queue::Queue;
 use rules::Answer;
 
 pub mod begin;
 pub mod deliver;
 pub mod finish;
 pub mod grant;
-mod meters;
 pub mod open;
 pub mod pick;
 mod places;
@@ -17,16 +16,19 @@ mod refusal;
 pub mod scan;
 pub mod tenants;
 
-// The counters Cx and Cs of the records, the meters of the tenants 1 to 16, and the queue.
+// What a call answered, and the units that it burnt.
+pub struct Said {
+    pub answer: Answer,
+    pub burnt: u32,
+}
+
+// The counters Cx and Cs of the records, the meters of the tenants 1 to 16, the queue in its first `count` slots, front
+// first, and what the last call said.
 pub struct State {
     pub cx: [u8; 256],
     pub cs: [u8; 256],
     pub meters: [Meter; 16],
-    pub queue: Queue,
-}
-
-pub struct Outcome {
-    pub state: State,
-    pub answer: Answer,
-    pub burnt: u32,
+    pub count: usize,
+    pub entries: [Entry; 64],
+    pub said: Said,
 }

@@ -9,7 +9,7 @@ ghost use Rattle.rules.specs.Refusals.{firstOf, openRows};
 ghost use Rattle.rules.specs.Calls.{openOf};
 ghost use Rattle.meter.specs.View.{meterView};
 ghost use Rattle.manager.specs.State.{Did, Becomes};
-use crate::Outcome;
+use crate::Said;
 use crate::State;
 use meter::Meter;
 use rules::Answer;
@@ -64,38 +64,36 @@ fn meters(shares: &[u8]) -> [Meter; 16]
     all
 }
 
-// A fresh state: all counters zero, an empty queue.
-fn fresh(shares: &[u8]) -> State
+// A fresh state: all counters zero, an empty queue, and what Open answers.
+fn fresh(shares: &[u8], answer: Answer) -> State
     requires { ⌜ length (now shares) ≡ 16 ⌝ }
     ensures { λ r. ⌜ Becomes (freshTable (now (shares .entry))) r ⌝ }
+    ensures { λ r. ⌜ (r .said .answer ≡ answer) × (r .said .burnt ≡ 0) ⌝ }
 {
     let all = meters(shares);
-    let none = queue::none();
+    let unused = entry::empty();
+    let slots = [unused; 64];
+    let said = Said {
+        answer: answer,
+        burnt: 0,
+    };
     State {
         cx: [0; 256],
         cs: [0; 256],
         meters: all,
-        queue: none,
+        count: 0,
+        entries: slots,
+        said: said,
     }
 }
 
-pub fn open(shares: &[u8]) -> Outcome
+pub fn open(shares: &[u8]) -> State
     ensures { λ r. ⌜ Did r (openOf (now (shares .entry))) ⌝ }
 {
     let number = refusal(shares);
     if number != 0 {
         let none = [0u8; 16];
-        let empty = fresh(&none);
-        return Outcome {
-            state: empty,
-            answer: Answer::Refused(number),
-            burnt: 0,
-        };
+        return fresh(&none, Answer::Refused(number));
     }
-    let state = fresh(shares);
-    Outcome {
-        state: state,
-        answer: Answer::Ok,
-        burnt: 0,
-    }
+    fresh(shares, Answer::Ok)
 }

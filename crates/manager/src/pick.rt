@@ -2,33 +2,29 @@
 ghost use Rattle.rules.specs.Calls.{pickOf};
 ghost use Rattle.manager.specs.State.{view, Sound, Did};
 use super::places;
-use crate::Outcome;
+use crate::Said;
 use crate::State;
 use rules::Answer;
 
-pub fn pick(s: State) -> Outcome
+pub fn pick(s: State) -> State
     requires { ⌜ Sound s ⌝ }
     ensures { λ r. ⌜ Did r (pickOf (view s)) ⌝ }
 {
-    let q = s.queue;
-    let n = q.count;
-    if 0 < n {
-        let e = queue::entry_at(q, 0);
+    let mut n = s;
+    let mut answer = Answer::Nothing;
+    if 0 < n.count {
+        let e = n.entries[0];
         let mode = e.mode;
         if entry::is_blocked(mode) {
-            let p = places::promote(s, 0);
-            let next = p.state;
-            let answer = p.answer;
-            return Outcome {
-                state: next,
-                answer: answer,
-                burnt: 0,
-            };
+            let p = entry::promoted(e);
+            n.entries[0] = p;
+            answer = places::named(p);
         }
     }
-    Outcome {
-        state: s,
-        answer: Answer::Nothing,
+    let said = Said {
+        answer: answer,
         burnt: 0,
-    }
+    };
+    n.said = said;
+    n
 }

@@ -1,76 +1,94 @@
 // Recheck: a Blocked entry is promoted if the counters show no one else at its records.
 ghost use mathlib.Core.Path.{_≡_};
 ghost use Rattle.rules.specs.Prices.{pricesOf};
-ghost use Rattle.rules.specs.Refusals.{firstOf, recheckRows};
+ghost use Rattle.rules.specs.Refusals.{firstOf, standsAt, recheckRows};
 ghost use Rattle.rules.specs.Calls.{recheckOf};
 ghost use Rattle.manager.specs.State.{view, Sound, Did};
-use super::meters;
+ghost use Rattle.manager.specs.Rows.{recheckBy};
+ghost use Rattle.manager.specs.Deeds.{Rechecked};
 use super::places;
 use super::refusal;
 use super::tenants;
-use crate::Outcome;
+use crate::Said;
 use crate::State;
 use rules::Answer;
 
 // Refusals in the order 1, 2, 10, 11, 9.
-fn refusal(s: State, who: u8, serial: u16) -> u8
-    requires { ⌜ Sound s ⌝ }
-    ensures { λ r. ⌜ r ≡ firstOf (recheckRows (pricesOf (view s)) (view s) who serial) ⌝ }
+fn refusal(tenant: bool, fuel: u32, absent: bool, blocked: bool, price: u32) -> u8
+    ensures { λ r. ⌜ r ≡ firstOf (recheckBy tenant fuel absent blocked price) ⌝ }
 {
-    if !tenants::is_tenant(who) {
+    if !tenant {
         return 1;
     }
-    let m = meters::meter_of(s, who);
-    if m.fuel == 0 {
+    if fuel == 0 {
         return 2;
     }
-    let q = s.queue;
-    let n = q.count;
-    let at = queue::find(q, who, serial);
-    if n <= at {
+    if absent {
         return 10;
     }
-    let e = queue::entry_at(q, at);
-    let mode = e.mode;
-    if !entry::is_blocked(mode) {
+    if !blocked {
         return 11;
     }
-    let price = 1 + entry::size(e) as u32;
-    if m.fuel < price {
+    if fuel < price {
         return 9;
     }
     0
 }
 
-pub fn recheck(s: State, who: u8, serial: u16) -> Outcome
+// The entry at a place is promoted if it is alone, and the tenant pays. Where the call was refused nothing moves.
+fn rechecked(s: State, number: u8, who: u8, serial: u16, at: usize) -> State
     requires { ⌜ Sound s ⌝ }
-    ensures { λ r. ⌜ Did r (recheckOf (pricesOf (view s)) (view s) who serial) ⌝ }
+    requires { ⌜ (number ≡ 0 → firstOf (recheckRows (pricesOf (view s)) (view s) who serial) ≡ 0) ⌝ }
+    requires { ⌜ (number ≡ 0 → at ≡ standsAt who serial (view s .queue)) ⌝ }
+    ensures { λ r. ⌜ Rechecked s number who serial r ⌝ }
 {
-    let number = refusal(s, who, serial);
-    if number != 0 {
-        return refusal::refused(s, who, number);
-    }
-    let q = s.queue;
-    let at = queue::find(q, who, serial);
-    let e = queue::entry_at(q, at);
-    let price = 1 + entry::size(e) as u32;
-    let cx = s.cx;
-    let cs = s.cs;
-    if counters::alone(cx, cs, e) {
-        let p = places::promote(s, at);
-        let running = p.state;
-        let answer = p.answer;
-        let next = meters::paid(running, who, price);
-        return Outcome {
-            state: next,
+    let mut n = s;
+    if number == 0 {
+        let e = n.entries[at];
+        let mut answer = Answer::Still;
+        if counters::alone(&n.cx, &n.cs, e) {
+            let p = entry::promoted(e);
+            n.entries[at] = p;
+            answer = places::named(p);
+        }
+        let price = 1 + entry::size(e) as u32;
+        let i = (who - 1) as usize;
+        let m = n.meters[i];
+        let paid = meter::charged(m, price);
+        n.meters[i] = paid;
+        let said = Said {
             answer: answer,
             burnt: price,
         };
+        n.said = said;
     }
-    let next = meters::paid(s, who, price);
-    Outcome {
-        state: next,
-        answer: Answer::Still,
-        burnt: price,
+    n
+}
+
+pub fn recheck(s: State, who: u8, serial: u16) -> State
+    requires { ⌜ Sound s ⌝ }
+    ensures { λ r. ⌜ Did r (recheckOf (pricesOf (view s)) (view s) who serial) ⌝ }
+{
+    let count = s.count;
+    let mut at: usize = 0;
+    while at < count {
+        if s.entries[at].tenant == who && s.entries[at].serial == serial {
+            break;
+        }
+        at += 1;
     }
+    let tenant = tenants::is_tenant(who);
+    let all = s.meters;
+    let m = tenants::meter_of(all, who);
+    let mut blocked = false;
+    let mut price: u32 = 0;
+    if at < count {
+        let e = s.entries[at];
+        let mode = e.mode;
+        blocked = entry::is_blocked(mode);
+        price = 1 + entry::size(e) as u32;
+    }
+    let number = refusal(tenant, m.fuel, count <= at, blocked, price);
+    let paid = refusal::settled(s, who, number);
+    rechecked(paid, number, who, serial, at)
 }

@@ -1,17 +1,17 @@
-// A refused call of a tenant: nothing changes but its fuel.
+// A refused call of a tenant: nothing changes but its fuel, and what is said.
 ghost use mathlib.Core.Path.{_≡_};
 ghost use mathlib.Core.Bool.{false};
 ghost use Rattle.rules.specs.Table.{isTenant};
 ghost use Rattle.rules.specs.Prices.{clause9, charge as chargeOf};
-ghost use Rattle.manager.specs.State.{view, Sound, Did, refusedWith};
-use super::meters;
+ghost use Rattle.manager.specs.State.{Sound};
+ghost use Rattle.manager.specs.Deeds.{Settled};
 use super::tenants;
-use crate::Outcome;
+use crate::Said;
 use crate::State;
 use rules::Answer;
 
 // What a refusal burns: 1 for the numbers 3 to 11, nothing for the others.
-pub fn charge(number: u8, fuel: u32) -> u32
+fn burns(number: u8, fuel: u32) -> u32
     ensures { λ r. ⌜ r ≡ chargeOf clause9 fuel number ⌝ }
 {
     if number < 3 {
@@ -26,24 +26,27 @@ pub fn charge(number: u8, fuel: u32) -> u32
     1
 }
 
-pub fn refused(s: State, who: u8, number: u8) -> Outcome
+// Pays for a refusal; where the number is 0 there is none, and the state stays as it is.
+pub fn settled(s: State, who: u8, number: u8) -> State
     requires { ⌜ Sound s ⌝ }
     requires { ⌜ (isTenant who ≡ false → number ≡ 1) ⌝ }
-    ensures { λ r. ⌜ Did r (refusedWith (view s) who number) ⌝ }
+    ensures { λ r. ⌜ Settled s who number r ⌝ }
 {
-    if !tenants::is_tenant(who) {
-        return Outcome {
-            state: s,
+    let mut n = s;
+    if number != 0 {
+        let mut burnt: u32 = 0;
+        if tenants::is_tenant(who) {
+            let i = (who - 1) as usize;
+            let m = n.meters[i];
+            burnt = burns(number, m.fuel);
+            let paid = meter::charged(m, burnt);
+            n.meters[i] = paid;
+        }
+        let said = Said {
             answer: Answer::Refused(number),
-            burnt: 0,
+            burnt: burnt,
         };
+        n.said = said;
     }
-    let m = meters::meter_of(s, who);
-    let price = charge(number, m.fuel);
-    let next = meters::paid(s, who, price);
-    Outcome {
-        state: next,
-        answer: Answer::Refused(number),
-        burnt: price,
-    }
+    n
 }

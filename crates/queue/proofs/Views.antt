@@ -20,8 +20,7 @@ use Rattle.rules.proofs.Steps.{list-step}
 use Rattle.rules.proofs.Mapped.{map-take, map-drop, map-set}
 use Rattle.entry.specs.declared.Entry.{Entry}
 use Rattle.entry.specs.Entry.{request, noEntry, blank, Tidy}
-use Rattle.queue.specs.declared.Queue.{Queue}
-use Rattle.queue.specs.Queue.{queued, requests, Neat, Holds}
+use Rattle.queue.specs.Queue.{Queue, queued, requests, Neat, Holds}
 use Rattle.queue.proofs.Shift.{Shifted, shift-list, shift-rest, shift-all}
 
 -- a neat queue of 64 slots

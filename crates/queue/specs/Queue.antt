@@ -6,7 +6,11 @@ use lib.ListN.{getD, take, drop, replicate}
 use Rattle.rules.specs.Request.{Request}
 use Rattle.entry.specs.declared.Entry.{Entry}
 use Rattle.entry.specs.Entry.{request, noEntry, blank, Tidy}
-use Rattle.queue.specs.declared.Queue.{Queue}
+
+-- slots, of which the first `count` are in use: as the manager's state has them
+pub record Queue : Type 0 where
+  pub count : ℕ
+  pub entries : List Entry
 
 -- the slots in use, front first
 abbrev pub queued : Queue → List Entry

@@ -6,7 +6,6 @@ use Rattle.rules.specs.declared.Kind.{Kind}
 use Rattle.rules.specs.declared.Event.{Event}
 use Rattle.rules.specs.Runs.{Call, eventOf}
 use Rattle.manager.specs.declared.State.{State}
-use Rattle.manager.specs.declared.Outcome.{Outcome}
 use Rattle.manager.specs.Runs.{DidCall}
 use Rattle.events.specs.Events.{callAt}
 use Rattle.events.proofs.Found.{withParts, Found, found, call-of}
@@ -21,5 +20,5 @@ module _ {file : List ℕ} {at : ℕ} {e : Event} (h : ReadAt file at e) where
   event-read = was-read .event
 
   -- what did the call with the parts that the readers hand back did the call at the position
-  pub did-read : {r : Outcome} (s : State) (k : Kind) → e .kind ≡ k → DidCall s (withParts file at k e) r → DidCall s (callAt file at e) r
+  pub did-read : {r : State} (s : State) (k : Kind) → e .kind ≡ k → DidCall s (withParts file at k e) r → DidCall s (callAt file at e) r
   did-read {r} s k is d = subst (λ (call : Call). DidCall s call r) (sym (call-of was-read k is)) d

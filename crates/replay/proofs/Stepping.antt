@@ -11,7 +11,6 @@ use Rattle.rules.specs.Refusals.{firstOf, openRows}
 use Rattle.rules.specs.Calls.{openOf}
 use Rattle.rules.proofs.Tests.{if-either}
 use Rattle.manager.specs.declared.State.{State}
-use Rattle.manager.specs.declared.Outcome.{Outcome}
 use Rattle.manager.specs.State.{view, Sound}
 use Rattle.manager.specs.Runs.{DidCall}
 use Rattle.rules.specs.declared.Event.{Event}
@@ -37,13 +36,13 @@ module _ (s : State) (file : List ℕ) (at : ℕ) (first : Bool) (number : ℕ) 
   pub step-refused : {k : ℕ} → recordAt file at first ≡ Next.Refused k → Sound s → {l : Line} → Written (fileLine number k) l → Steps s file at first number (record { state = s; line = l; next = at; more = false })
   step-refused q h w = record { sound = h; table = rw q refl; line = rw q w; next = rw q refl; more = rw q refl; kept = λ z. refl }
 
-  module _ {e : Event} {n : ℕ} (q : recordAt file at first ≡ Next.Call e n) {o : Outcome} (d : DidCall s (callAt file at e) o) where
+  module _ {e : Event} {n : ℕ} (q : recordAt file at first ≡ Next.Call e n) {o : State} (d : DidCall s (callAt file at e) o) where
     -- the line of a call: its name, and the fuel in the state after it
-    call-line : {left : Left} → left ≡ leftAfter (view (o .state)) (e .tenant) → lineOf number (Name.Call (e .kind)) (o .answer) (o .burnt) left ≡ callLine number (view s) (callAt file at e)
+    call-line : {left : Left} → left ≡ leftAfter (view o) (e .tenant) → lineOf number (Name.Call (e .kind)) (o .said .answer) (o .said .burnt) left ≡ callLine number (view s) (callAt file at e)
     unfolding callLine
     call-line left = cc (left, d .answer, d .burnt, d .table, event-read (record { first = first; next = n; is = q }))
 
-    pub step-called : {left : Left} → left ≡ leftAfter (view (o .state)) (e .tenant) → {l : Line} → Written (lineOf number (Name.Call (e .kind)) (o .answer) (o .burnt) left) l → Steps s file at first number (record { state = o .state; line = l; next = n; more = true })
+    pub step-called : {left : Left} → left ≡ leftAfter (view o) (e .tenant) → {l : Line} → Written (lineOf number (Name.Call (e .kind)) (o .said .answer) (o .said .burnt) left) l → Steps s file at first number (record { state = o; line = l; next = n; more = true })
     step-called left w = record {
       sound = d .sound;
       table = rw q (d .table);

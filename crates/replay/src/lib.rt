@@ -10,7 +10,6 @@ use events::Next;
 use listing::Left;
 use listing::Line;
 use listing::Name;
-use manager::Outcome;
 use manager::State;
 use rules::Answer;
 use rules::Event;
@@ -38,7 +37,7 @@ fn left_in(s: State, who: u8) -> Left
 }
 
 // The call of the event at a position.
-fn called(s: State, bytes: &[u8], at: usize, e: Event) -> Outcome
+fn called(s: State, bytes: &[u8], at: usize, e: Event) -> State
     requires { ⌜ Sound s ⌝ }
     requires { ⌜ ReadAt (now bytes) at e ⌝ }
     ensures { λ r. ⌜ DidCall s (callAt (now (bytes .entry)) at e) r ⌝ }
@@ -79,12 +78,12 @@ fn step(s: State, bytes: &[u8], at: usize, first: bool, number: u32) -> Stepped
     let found = events::record_at(bytes, at, first);
     match found {
         Next::Call(e, next) => {
-            let o = called(s, bytes, at, e);
-            let after = o.state;
-            let answer = o.answer;
+            let after = called(s, bytes, at, e);
+            let said = after.said;
+            let answer = said.answer;
             let left = left_in(after, e.tenant);
             let kind = e.kind;
-            let line = listing::line_of(number, Name::Call(kind), answer, o.burnt, left);
+            let line = listing::line_of(number, Name::Call(kind), answer, said.burnt, left);
             Stepped {
                 state: after,
                 line: line,
@@ -119,6 +118,5 @@ fn start() -> State
     ensures { λ r. ⌜ view r ≡ unopened ⌝ }
 {
     let none = [0u8; 16];
-    let o = manager::open::open(&none);
-    o.state
+    manager::open::open(&none)
 }

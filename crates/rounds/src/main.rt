@@ -18,12 +18,9 @@ fn wide(x: u8) -> usize
 fn opened() -> State
     ensures { λ r. ⌜ Sound r ⌝ }
 {
-    let a = manager::open::open(&[1, 63, 0, 0, 0, 0, 0, 0, 0, 0, 0, 0, 0, 0, 0, 0]);
-    let empty = a.state;
-    let b = manager::grant::grant(empty, 1, 1_000_000_000);
-    let one = b.state;
-    let c = manager::grant::grant(one, 2, 1_000_000_000);
-    c.state
+    let empty = manager::open::open(&[1, 63, 0, 0, 0, 0, 0, 0, 0, 0, 0, 0, 0, 0, 0, 0]);
+    let one = manager::grant::grant(empty, 1, 1_000_000_000);
+    manager::grant::grant(one, 2, 1_000_000_000)
 }
 
 // Tenant 2 holds k entries, each of 2 reads and 2 writes of its own.
@@ -38,8 +35,7 @@ fn held(s: State, k: u8) -> State
         let first = 4 * i;
         let reads = [first, first + 1];
         let writes = [first + 2, first + 3];
-        let a = manager::begin::begin(t, 2, 0, &reads, &writes);
-        let next = a.state;
+        let next = manager::begin::begin(t, 2, 0, &reads, &writes);
         t = next;
         i += 1;
     }
@@ -51,8 +47,7 @@ fn blocked(s: State) -> State
     requires { ⌜ Sound s ⌝ }
     ensures { λ r. ⌜ Sound r ⌝ }
 {
-    let a = manager::begin::begin(s, 1, 0, &[252, 253], &[3, 254]);
-    a.state
+    manager::begin::begin(s, 1, 0, &[252, 253], &[3, 254])
 }
 
 // Requests of tenant 1 on records that nobody holds, each finished before the next.
@@ -67,10 +62,8 @@ fn rounds(s: State, n: usize) -> State
     let mut i: usize = 0;
     while i < n {
         let serial = (i + 1) as u16;
-        let a = manager::begin::begin(t, 1, 0, &reads, &writes);
-        let running = a.state;
-        let b = manager::finish::finish(running, 1, serial);
-        let next = b.state;
+        let running = manager::begin::begin(t, 1, 0, &reads, &writes);
+        let next = manager::finish::finish(running, 1, serial);
         t = next;
         i += 1;
     }
@@ -85,8 +78,7 @@ fn scans(s: State, n: usize) -> State
     let mut t = s;
     let mut i: usize = 0;
     while i < n {
-        let a = manager::scan::scan(t, 1);
-        let next = a.state;
+        let next = manager::scan::scan(t, 1);
         t = next;
         i += 1;
     }
@@ -100,10 +92,9 @@ fn number(n: u64, behind: &[u8]) {
 
 fn show(s: State) {
     let m = s.meters[0];
-    let q = s.queue;
     number(m.fuel as u64, b" ");
     number(m.serials as u64, b" ");
-    number(q.count as u64, b"\n");
+    number(s.count as u64, b"\n");
 }
 
 // The work of a letter on k entries held. With none held the scans find an empty queue.

@@ -9,10 +9,8 @@ use manager::State;
 fn opened() -> State
     ensures { λ r. ⌜ Sound r ⌝ }
 {
-    let a = manager::open::open(&[4; 16]);
-    let empty = a.state;
-    let b = manager::grant::grant(empty, 1, 1_000_000_000);
-    b.state
+    let empty = manager::open::open(&[4; 16]);
+    manager::grant::grant(empty, 1, 1_000_000_000)
 }
 
 fn scans(s: State, n: u8) -> State
@@ -22,8 +20,7 @@ fn scans(s: State, n: u8) -> State
     let mut t = s;
     let mut i: u8 = 0;
     while i < n {
-        let a = manager::scan::scan(t, 1);
-        let next = a.state;
+        let next = manager::scan::scan(t, 1);
         t = next;
         i += 1;
     }

@@ -23,13 +23,13 @@ lists c =
     let l = entry-lists (s .args .e) _ (s .good .1 .1 .0) in
     (few-take (s .args .e .nr) _ (l .reads) (c .before .before .before .few .ensures), few-take (s .args .e .nw) _ (l .writes) (c .before .before .few2 .ensures))
 
-writes-cx : (c : tie.After-all-equal) → let s = start (c .before) .args in c .all-equal .result ≡ every (λ k. eqb (at (s .cx) k) 1) (request (s .e) .writes)
+writes-cx : (c : tie.After-all-equal) → let s = start (c .before) .args in c .all-equal .result ≡ every (λ k. eqb (at (s .cx .now) k) 1) (request (s .e) .writes)
 writes-cx c = c .all-equal .ensures ∙ ap (every _) (lists (c .before) .1)
 
-writes-cs : (c : tie.After-all-equal2) → let s = start (c .before .before .before) .args in c .all-equal2 .result ≡ every (λ k. eqb (at (s .cs) k) 0) (request (s .e) .writes)
+writes-cs : (c : tie.After-all-equal2) → let s = start (c .before .before .before) .args in c .all-equal2 .result ≡ every (λ k. eqb (at (s .cs .now) k) 0) (request (s .e) .writes)
 writes-cs c = c .all-equal2 .ensures ∙ ap (every _) (lists (c .before .before .before) .1)
 
-reads-cx : (c : tie.After-all-equal3) → let s = start (c .before .before .before .before .before) .args in c .all-equal3 .result ≡ every (λ k. eqb (at (s .cx) k) 0) (request (s .e) .reads)
+reads-cx : (c : tie.After-all-equal3) → let s = start (c .before .before .before .before .before) .args in c .all-equal3 .result ≡ every (λ k. eqb (at (s .cx .now) k) 0) (request (s .e) .reads)
 reads-cx c = c .all-equal3 .ensures ∙ ap (every _) (lists (c .before .before .before .before .before) .0)
 
 few-requires : tie.Need-few-requires

@@ -11,6 +11,9 @@ use Rattle.counters.specs.Counters.{at}
 use Rattle.counters.proofs.clashes.Statement.{statement}
 use Rattle.counters.proofs.clashes.Tie as tie
 use Rattle.counters.proofs.clashes.Reads as reads
+use Rattle.counters.proofs.clashes.Lts as lts
+use Rattle.counters.proofs.some_above.Reads as some-above-reads
+use Rattle.entry.proofs.few.Reads as few-reads
 
 -- the lists that are compared are the request's
 abbrev start : tie.After-writes → tie.Start
@@ -22,13 +25,13 @@ lists c =
     let l = entry-lists (s .args .e) _ (s .good .1 .1 .0) in
     (few-take (s .args .e .nr) _ (l .reads) (c .before .before .before .few .ensures), few-take (s .args .e .nw) _ (l .writes) (c .before .before .few2 .ensures))
 
-reads-cx : (c : tie.After-some-above) → let s = start (c .before) .args in c .some-above .result ≡ some (λ k. ltb 0 (at (s .cx) k)) (request (s .e) .reads)
+reads-cx : (c : tie.After-some-above) → let s = start (c .before) .args in c .some-above .result ≡ some (λ k. ltb 0 (at (s .cx .now) k)) (request (s .e) .reads)
 reads-cx c = c .some-above .ensures ∙ ap (some _) (lists (c .before) .0)
 
-writes-cx : (c : tie.After-some-above2) → let s = start (c .before .before .before) .args in c .some-above2 .result ≡ some (λ k. ltb 1 (at (s .cx) k)) (request (s .e) .writes)
+writes-cx : (c : tie.After-some-above2) → let s = start (c .before .before .before) .args in c .some-above2 .result ≡ some (λ k. ltb 1 (at (s .cx .now) k)) (request (s .e) .writes)
 writes-cx c = c .some-above2 .ensures ∙ ap (some _) (lists (c .before .before .before) .1)
 
-writes-cs : (c : tie.After-some-above3) → let s = start (c .before .before .before .before .before) .args in c .some-above3 .result ≡ some (λ k. ltb 0 (at (s .cs) k)) (request (s .e) .writes)
+writes-cs : (c : tie.After-some-above3) → let s = start (c .before .before .before .before .before) .args in c .some-above3 .result ≡ some (λ k. ltb 0 (at (s .cs .now) k)) (request (s .e) .writes)
 writes-cs c = c .some-above3 .ensures ∙ ap (some _) (lists (c .before .before .before .before .before) .1)
 
 few-requires : tie.Need-few-requires

@@ -1,23 +1,26 @@
--- A turn for each entry that is queued.
+-- A turn for each entry that is queued; the maps keep their four words.
 use borrow.Author.Needs.{needs}
 use Prim.Native.Nat.{_-_, _≤_}
+use mathlib.Core.Path.{_≡_}
+use native.Mathlib.Omega.{arith}
+use lib.ListN.{length}
 use Rattle.manager.specs.State.{Sound}
 use Rattle.direct.proofs.verdicts.Statement.{statement}
 use Rattle.direct.proofs.verdicts.Tie as tie
 use Rattle.direct.proofs.verdicts.Reads as reads
 use Rattle.direct.proofs.verdicts.Lts as lts
 use Rattle.direct.proofs.verdict.Reads as verdict-reads
-use Rattle.direct.proofs.with_reads.Reads as with-reads-reads
-use Rattle.direct.proofs.with_writes.Reads as with-writes-reads
+use Rattle.entry.proofs.few.Reads as few-reads
 use Rattle.manager.proofs.scan.clear_by_maps.Reads as clear-by-maps-reads
 use Rattle.manager.proofs.scan.clear_by_pairs.Reads as clear-by-pairs-reads
+use Rattle.maps.proofs.add.Reads as add-reads
 use Rattle.maps.proofs.none.Reads as none-reads
 
 abbrev Inv-loop : tie.InvT-loop
-Inv-loop s q n written₀ read₀ i₀ written read i = Sound s × (n ≤ 64)
+Inv-loop s n written₀ read₀ i₀ written read i = Sound s × (n ≤ 64) × (length written ≡ 4) × (length read ≡ 4)
 
 abbrev μ-loop : tie.MeasureT-loop
-μ-loop s q n written₀ read₀ i₀ written read i = n - i
+μ-loop s n written₀ read₀ i₀ written read i = n - i
 
 none-requires : tie.Need-none-requires Inv-loop μ-loop
 none-requires c κs = search needs
@@ -26,7 +29,9 @@ none-requires-2 : tie.Need-none-requires-2 Inv-loop μ-loop
 none-requires-2 c κs = search needs
 
 loop-holds : tie.Need-loop-holds Inv-loop μ-loop
-loop-holds c = let s = c .before .before .before in (s .pre, s .pre .tied .neat .within)
+loop-holds c =
+    let s = c .before .before in
+    (s .pre, s .pre .tied .neat .within, c .before .none .ok .1 .0 .1, c .none2 .ok .1 .0 .1)
 
 mul-e : tie.Need-mul-e Inv-loop μ-loop
 mul-e c = search needs
@@ -43,11 +48,17 @@ clear-by-pairs-requires c κs = search needs
 verdict-requires : tie.Need-verdict-requires Inv-loop μ-loop
 verdict-requires c κs = search needs
 
-with-writes-requires : tie.Need-with-writes-requires Inv-loop μ-loop
-with-writes-requires c κs = search needs
+few-requires : tie.Need-few-requires Inv-loop μ-loop
+few-requires c κs = search needs
 
-with-reads-requires : tie.Need-with-reads-requires Inv-loop μ-loop
-with-reads-requires c κs = search needs
+few-requires-2 : tie.Need-few-requires-2 Inv-loop μ-loop
+few-requires-2 c κs = search needs
+
+add-requires : tie.Need-add-requires Inv-loop μ-loop
+add-requires c κs = search needs
+
+add-requires-2 : tie.Need-add-requires-2 Inv-loop μ-loop
+add-requires-2 c κs = search needs
 
 add-i : tie.Need-add-i Inv-loop μ-loop
 add-i c = search needs
@@ -75,8 +86,10 @@ verdicts-spec =
     clear-by-maps-requires
     clear-by-pairs-requires
     verdict-requires
-    with-writes-requires
-    with-reads-requires
+    few-requires
+    few-requires-2
+    add-requires
+    add-requires-2
     add-i
     loop-less
     loop-again

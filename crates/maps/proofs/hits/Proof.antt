@@ -19,7 +19,7 @@ abbrev μ-loop : tie.MeasureT-loop
 
 -- one of the records from i on is in the map
 abbrev hitFrom : tie.Start Inv-loop μ-loop → ℕ → Bool
-hitFrom c i = some (inMap (c .args .map)) (drop i (take (c .args .n) (c .args .t2)))
+hitFrom c i = some (inMap (c .args .map .now)) (drop i (take (c .args .n) (c .args .t2)))
 
 -- once the record at i is looked at: it is a hit, or one past it is
 looked : (c : tie.After-has Inv-loop μ-loop) → hitFrom (c .before .before .before) 0 ≡ (c .has .result || hitFrom (c .before .before .before) (c .before .before .loop .i + 1))
@@ -28,7 +28,7 @@ looked c =
     let args = at .before .args in
     let eight : length (args .t2) ≡ 8 = at .before .good .1 .0 .1 .0 .1 in
     rw (c .has .ensures)
-    (at .loop .inv .1 ∙ some-part-step (inMap (args .map)) (args .t2) (args .n) (at .loop .i) 0 (omega arith) (omega arith))
+    (at .loop .inv .1 ∙ some-part-step (inMap (args .map .now)) (args .t2) (args .n) (at .loop .i) 0 (omega arith) (omega arith))
 
 loop-holds : tie.Need-loop-holds Inv-loop μ-loop
 loop-holds c = search needs
@@ -55,7 +55,7 @@ returns-2 : tie.Need-returns-2 Inv-loop μ-loop
 returns-2 c =
     let at = c .before in
     let args = at .before .args in
-    sym (at .loop .inv .1 ∙ some-part-end (inMap (args .map)) (args .t2) (args .n) (at .loop .i) (c .loop-test .left))
+    sym (at .loop .inv .1 ∙ some-part-end (inMap (args .map .now)) (args .t2) (args .n) (at .loop .i) (c .loop-test .left))
 
 pub hits-spec : {M : Type 1} → statement M
 hits-spec =

@@ -15,7 +15,7 @@ open-requires : tie.Need-open-requires
 open-requires c κs = search needs
 
 returns : tie.Need-returns
-returns c = let d = c .before .open .ensures in (d .sound, d .table ∙ opened-none)
+returns c = let d = c .open .ensures in (d .sound, d .table ∙ opened-none)
 
 pub start-spec : {M : Type 1} → statement M
 start-spec = tie.close (tie.spec slice-aggregate-open open-requires returns)

@@ -20,14 +20,14 @@ loop-holds c = search needs
 mul-first : tie.Need-mul-first Inv-loop μ-loop
 mul-first c = search needs
 
+add-t10 : tie.Need-add-t10 Inv-loop μ-loop
+add-t10 c = search needs
+
+add-t10-2 : tie.Need-add-t10-2 Inv-loop μ-loop
+add-t10-2 c = search needs
+
 add-t11 : tie.Need-add-t11 Inv-loop μ-loop
 add-t11 c = search needs
-
-add-t11-2 : tie.Need-add-t11-2 Inv-loop μ-loop
-add-t11-2 c = search needs
-
-add-t12 : tie.Need-add-t12 Inv-loop μ-loop
-add-t12 c = search needs
 
 slice-aggregate-begin : tie.Need-slice-aggregate-begin Inv-loop μ-loop
 slice-aggregate-begin c = search needs
@@ -58,9 +58,9 @@ held-spec =
     μ-loop
     loop-holds
     mul-first
+    add-t10
+    add-t10-2
     add-t11
-    add-t11-2
-    add-t12
     slice-aggregate-begin
     slice-aggregate-begin-2
     begin-requires

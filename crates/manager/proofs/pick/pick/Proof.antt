@@ -1,57 +1,55 @@
--- By whether there is a front, and whether it is Blocked.
-use borrow.Author.Needs.{needs}
-use Prim.Native.Nat.{_<_}
-use native.Mathlib.Omega.{arith}
-use mathlib.Core.Path.{_≡_, sym, ap, _∙_}
-use lib.ListN.{length, getD}
-use Rattle.rules.specs.Request.{Request, nobody, isBlocked}
-use Rattle.queue.specs.Queue.{requests}
-use Rattle.queue.proofs.Views.{Slots, requests-length}
-use Rattle.manager.proofs.Typed.{state-slots}
+-- The front is promoted, or runs already, or there is none.
+use mathlib.Core.Path.{refl, sym, _∙_}
+use mathlib.Core.Logic.{⊎-elim}
+use Rattle.manager.proofs.Slots.{Slotted, slotted}
 use Rattle.manager.proofs.Front.{front-promoted, front-runs, front-none}
+use borrow.Author.Needs.{needs}
 use Rattle.manager.proofs.pick.pick.Statement.{statement}
 use Rattle.manager.proofs.pick.pick.Tie as tie
 use Rattle.manager.proofs.pick.pick.Reads as reads
 use Rattle.manager.proofs.pick.pick.Lts as lts
 use Rattle.entry.proofs.is_blocked.Reads as is-blocked-reads
-use Rattle.manager.proofs.places.promote.Reads as promote-reads
-use Rattle.queue.proofs.entry_at.Reads as entry-at-reads
+use Rattle.entry.proofs.promoted.Reads as promoted-reads
+use Rattle.manager.proofs.places.named.Reads as named-reads
 
-there : (c : tie.Then1) → 0 < length (requests (c .before .before .args .s .queue))
-there c =
-    let s = c .before .before in
-    let slots : Slots (s .args .s .queue) = record { full = state-slots (s .args .s) _ (s .good .0); neat = s .pre .tied .neat } in
-    omega (arith, requests-length slots)
+slots : (s : tie.Start) → Slotted (s .args .s)
+slots s = slotted (s .args .s) _ (s .good .0) (s .pre .tied)
 
-blocked-is : (c : tie.After-is-blocked) → isBlocked (getD (requests (c .before .before .before .before .args .s .queue)) 0 nobody .mode) ≡ c .is-blocked .result
-blocked-is c = sym (c .is-blocked .ensures ∙ ap (λ (r : Request). isBlocked (r .mode)) (c .before .entry-at .ensures .is))
-
-entry-at-requires : tie.Need-entry-at-requires
-entry-at-requires c κs = (c .before .before .pre .tied .neat, c .if1 .taken)
+element-copy-out-e : tie.Need-element-copy-out-e
+element-copy-out-e c = search needs
 
 is-blocked-requires : tie.Need-is-blocked-requires
 is-blocked-requires c κs = search needs
 
-promote-requires : tie.Need-promote-requires
-promote-requires c κs =
-    let s = c .before .before .before .before .before in
-    (s .pre .tied, there (c .before .before .before))
+promoted-requires : tie.Need-promoted-requires
+promoted-requires c κs =
+    let one = c .before .before .before in
+    slots (one .before) .slots .neat .tidy 0 (one .if1 .taken)
+
+element-set-from-p : tie.Need-element-set-from-p
+element-set-from-p c = search needs
+
+named-requires : tie.Need-named-requires
+named-requires c κs = search needs
 
 returns : tie.Need-returns
 returns c =
-    let two = c .before .before in
-    let s = two .before .before .before .before .before in
-    front-promoted (s .pre) (there (two .before .before .before)) (blocked-is (two .before) ∙ two .if2 .taken) (c .before .promote .ensures)
-
-returns-2 : tie.Need-returns-2
-returns-2 c =
-    let s = c .before .before .before .before .before in
-    front-runs (s .pre) (there (c .before .before .before)) (blocked-is (c .before) ∙ c .if2 .left)
-
-returns-3 : tie.Need-returns-3
-returns-3 c = front-none (c .before .before .pre) (c .if1 .left)
+    let s = c .before in
+    let k = slots s in
+    ⊎-elim
+    (λ w. rw (w .6, w .7) (front-promoted (s .pre) k (w .0 .taken) (sym (w .2 .ensures) ∙ w .3 .taken) (w .4 .ensures) _ (w .5 .ensures) refl))
+    (⊎-elim
+    (λ w. rw (w .4, w .5) (front-runs (s .pre) k (w .0 .taken) (sym (w .2 .ensures) ∙ w .3 .left)))
+    (λ w. rw (w .1, w .2) (front-none (s .pre) k (w .0 .left))))
+    (c .if1 .came)
 
 pub pick-spec : {M : Type 1} → statement M
 pick-spec =
     tie.close
-    (tie.spec entry-at-requires is-blocked-requires promote-requires returns returns-2 returns-3)
+    (tie.spec
+    element-copy-out-e
+    is-blocked-requires
+    promoted-requires
+    element-set-from-p
+    named-requires
+    returns)

@@ -1,168 +1,194 @@
--- Refused, or paid for; promoted where the counters show no one else.
-use borrow.Author.Needs.{needs}
-use Prim.Native.Nat.{ℕ, _+_, _<_, _≤_}
+-- None of the entries ahead of the place has the name; what is told from the numbers there is the law book's refusal.
+use Prim.Native.Nat.{ℕ, _≤_, _-_, _+_}
 use native.Mathlib.Omega.{arith}
-use mathlib.Core.Path.{_≡_, refl, sym, ap, subst₂, _∙_}
+use mathlib.Core.Path.{_≡_, refl, sym, ap, _∙_}
 use mathlib.Core.Bool.{true, false}
-use lib.ListN.{length}
-use Rattle.rules.specs.Request.{size, promoted}
-use Rattle.rules.specs.Table.{Table, isTenant, meterOf, burn}
-use Rattle.rules.specs.Prices.{clause9}
-use Rattle.rules.specs.Refusals.{firstOf, isAbsent, standsAt, entryOf, recheckRows}
-use Rattle.rules.specs.Counters.{cx, cs, alone}
-use Rattle.rules.specs.Calls.{withEntry, named, recheckOf}
-use Rattle.rules.proofs.Refusals.{stranger, recheck-passes, here}
-use Rattle.rules.proofs.Keeps.{sound-burn}
-use Rattle.rules.proofs.Sound.{recheck-sound}
-use Rattle.entry.specs.Entry.{request}
-use Rattle.entry.proofs.Typed.{entry-lists}
-use Rattle.queue.specs.Queue.{requests}
-use Rattle.manager.specs.State.{view, Becomes}
-use Rattle.rules.specs.declared.Answer.the-variants.{Still}
-use Rattle.manager.proofs.Entries.{in-use}
-use Rattle.manager.proofs.Joining.{alone-told}
-use Rattle.manager.proofs.Lookup.{entry-is}
-use Rattle.manager.proofs.Done.{tenant-refused, tenant-done}
+use mathlib.Core.Logic.{⊎-elim}
+use lib.Dec.{leb}
+use lib.ListN.{drop}
+use borrow.Author.Tests.{eq-eqb, ne-eqb, leb-false}
+use Rattle.rules.specs.Request.{Request, size, isBlocked}
+use Rattle.rules.specs.Table.{Meter as LawMeter, isTenant}
+use Rattle.rules.specs.Prices.{clause9, pricesOf}
+use Rattle.rules.specs.Refusals.{firstOf, standsAt, entryOf, recheckRows}
+use Rattle.rules.specs.Calls.{recheckOf}
+use Rattle.rules.proofs.Refusals.{stranger}
+use Rattle.queue.proofs.Views.{stands-step, stands-end}
+use Rattle.manager.specs.declared.State.{State}
+use Rattle.manager.specs.State.{view, Did}
+use Rattle.manager.specs.Deeds.{refusedWith}
+use Rattle.manager.proofs.Done.{tenant-refused, settled-sound, settled-did}
+use Rattle.manager.proofs.Slots.{Slotted, slotted}
+use Rattle.manager.proofs.Rows.{own-meter, absent-is, entry-is, recheck-rows}
+use borrow.Author.Needs.{needs}
 use Rattle.manager.proofs.recheck.recheck.Statement.{statement}
 use Rattle.manager.proofs.recheck.recheck.Tie as tie
 use Rattle.manager.proofs.recheck.recheck.Reads as reads
 use Rattle.manager.proofs.recheck.recheck.Lts as lts
-use Rattle.counters.proofs.alone.Reads as alone-reads
+use Rattle.entry.proofs.is_blocked.Reads as is-blocked-reads
 use Rattle.entry.proofs.size.Reads as size-reads
-use Rattle.manager.proofs.meters.paid.Reads as paid-reads
-use Rattle.manager.proofs.places.promote.Reads as promote-reads
+use Rattle.manager.proofs.recheck.rechecked.Reads as rechecked-reads
 use Rattle.manager.proofs.recheck.refusal.Reads as refusal-reads
-use Rattle.manager.proofs.refusal.refused.Reads as refused-reads
-use Rattle.queue.proofs.entry_at.Reads as entry-at-reads
-use Rattle.queue.proofs.find.Reads as find-reads
+use Rattle.manager.proofs.refusal.settled.Reads as settled-reads
+use Rattle.manager.proofs.tenants.is_tenant.Reads as is-tenant-reads
+use Rattle.manager.proofs.tenants.meter_of.Reads as meter-of-reads
 
-none : (c : tie.Else1) → let s = c .before .before .args in firstOf (recheckRows clause9 (view (s .s)) (s .who) (s .serial)) ≡ 0
-none c = sym (c .before .refusal .ensures) ∙ c .if1 .left
+abbrev Inv-loop : tie.InvT-loop
+Inv-loop who serial s count at₀ at =
+    (at ≤ count) × (standsAt who serial (view s .queue) ≡ at + standsAt who serial (drop at (view s .queue)))
 
-passed : (c : tie.Else1) → let s = c .before .before .args in (isTenant (s .who) ≡ true) × (isAbsent (s .who) (s .serial) (requests (s .s .queue)) ≡ false) × (1 + size (entryOf (s .who) (s .serial) (requests (s .s .queue))) ≤ meterOf (view (s .s)) (s .who) .fuel)
-passed c = recheck-passes clause9 (view (c .before .before .args .s)) _ _ (none c)
+abbrev μ-loop : tie.MeasureT-loop
+μ-loop who serial s count at₀ at = count - at
 
-there : (c : tie.After-find) → c .find .result < length (requests (c .before .before .before .before .args .s .queue))
-there c = let s = c .before .before .before .before .args in rw (c .find .ensures) (here (s .who) (s .serial) (requests (s .s .queue)) (passed (c .before .before) .1))
+slots : (c : tie.Start Inv-loop μ-loop) → Slotted (c .args .t1)
+slots c = slotted (c .args .t1) _ (c .good .0) (c .pre .tied)
 
--- the entry that was read is the law book's
-asks : (c : tie.After-entry-at) → let s = c .before .before .before .before .before .args in request (c .entry-at .result) ≡ entryOf (s .who) (s .serial) (requests (s .s .queue))
-asks c = entry-is (c .before .before .before .before .before .args .s .queue) _ _ _ (c .before .find .ensures) (c .entry-at .ensures)
+-- where the loop was left, the entry stands, or none is left
+stood : (c : tie.Left-loop Inv-loop μ-loop) → let s = c .before .before .args in c .before .loop .at ≡ standsAt (s .who) (s .serial) (view (s .t1) .queue)
+stood c =
+    let a = c .before in
+    let s = a .before in
+    ⊎-elim
+    (λ w. omega (arith, a .loop .inv .1, stands-end (slots s .slots) (w .left) (s .args .who) (s .args .serial)))
+    (λ w.
+    let step = stands-step (slots s .slots) (w .0 .taken) (s .args .who) (s .args .serial) in
+    omega (arith, a .loop .inv .1, simp (eq-eqb _ _ (w .1 .taken), w .2 .taken) at step))
+    (c .loop-test .came)
 
-size-is : (c : tie.After-size) → let s = c .before .before .before .before .before .before .args in c .size .result ≡ size (entryOf (s .who) (s .serial) (requests (s .s .queue)))
-size-is c = c .size .ensures .0 ∙ ap size (asks (c .before))
+-- from the meter that was read back to the loop, and to the start
+abbrev looked-up : tie.After-meter-of Inv-loop μ-loop → tie.Left-loop Inv-loop μ-loop
+looked-up c = c .before .before .before
 
--- the verdict is the law book's
-told : (c : tie.After-alone) → let s = c .before .before .before .before .before .before .before .before .before .args in c .alone .result ≡ alone (cx (requests (s .s .queue))) (cs (requests (s .s .queue))) (entryOf (s .who) (s .serial) (requests (s .s .queue)))
-told c =
-    let e = c .before .before .before .before in
-    let s = e .before .before .before .before .before in
-    c .alone .ensures ∙ alone-told (s .pre .tied .writers) (s .pre .tied .readers) (e .entry-at .result) (entry-lists (e .entry-at .result) _ (e .entry-at .ok)) ∙ ap (alone _ _) (asks e)
+abbrev begun : tie.After-refusal Inv-loop μ-loop → tie.Start Inv-loop μ-loop
+begun c = looked-up (c .before .before) .before .before
 
-abbrev else1 : tie.After-alone → tie.Else1
-else1 c = c .before .before .before .before .before .before .before
+entry-told : (c : tie.Joined3 Inv-loop μ-loop) → let a = looked-up (c .before) .before in let s = a .before .args in let e = entryOf (s .who) (s .serial) (view (s .t1) .queue) in leb (s .t1 .count) (a .loop .at) ≡ false → (c .if3 .blocked ≡ isBlocked (e .mode)) × (c .if3 .price ≡ 1 + size e)
+entry-told c present =
+    let out = looked-up (c .before) in
+    let a = out .before in
+    let s = a .before in
+    ⊎-elim
+    (λ w.
+    let is = entry-is (slots s .slots) (s .args .who) (s .args .serial) (stood out) (w .0 .taken) in
+    (w .4 ∙ w .2 .ensures ∙ ap (λ (e : Request). isBlocked (e .mode)) is, w .5 ∙ ap (λ (n : ℕ). 1 + n) (w .3 .ensures .0 ∙ ap size is)))
+    (λ w. absurd (omega (arith, leb-false (s .args .t1 .count) (a .loop .at) present, w .0 .left)))
+    (c .if3 .came)
 
--- the state with the entry promoted
-runs : (c : tie.After-promote) → let s = else1 (c .before .before) .before .before .args in let q = requests (s .s .queue) in Becomes (withEntry (view (s .s)) (standsAt (s .who) (s .serial) q) (promoted (entryOf (s .who) (s .serial) q))) (c .promote .result .state)
-runs c = rw (c .before .before .before .before .before .before .before .find .ensures) at (c .promote .ensures .state)
+number-is : (c : tie.After-refusal Inv-loop μ-loop) → let s = begun c .args in c .refusal .result ≡ firstOf (recheckRows clause9 (view (s .t1)) (s .who) (s .serial))
+number-is c =
+    let j = c .before in
+    let m = j .before in
+    let s = begun c in
+    let own = own-meter (s .args .t1) (s .args .who) _ (m .meter-of .ensures) in
+    c .refusal .ensures ∙ recheck-rows (view (s .args .t1)) _ _ _ _ _ _ _ (m .before .before .is-tenant .ensures) (λ one. ap (λ (a : LawMeter). a .fuel) (own one)) (absent-is (slots s .slots) _ _ _ (stood (looked-up m))) (entry-told j)
 
-refusal-requires : tie.Need-refusal-requires
-refusal-requires c κs = search needs
-
-refused-requires : tie.Need-refused-requires
+outsider : (s : tie.Start Inv-loop μ-loop) → isTenant (s .args .who) ≡ false → firstOf (recheckRows clause9 (view (s .args .t1)) (s .args .who) (s .args .serial)) ≡ 1
 unfolding recheckRows
-refused-requires c κs =
-    let s = c .before .before in
-    (s .pre, λ outside. c .before .refusal .ensures ∙ stranger (s .args .who) _ outside)
+outsider s outside = stranger (s .args .who) _ outside
 
-returns : tie.Need-returns
-unfolding recheckOf
-returns c =
-    let one = c .before in
-    rw (← (one .before .refusal .ensures)) (tenant-refused _ _ _ _ _ _ (one .if1 .taken) (c .refused .ensures))
+loop-holds : tie.Need-loop-holds Inv-loop μ-loop
+loop-holds c = search needs
 
-find-requires : tie.Need-find-requires
-find-requires c κs = c .before .before .before .pre .tied .neat
+mul-if1 : tie.Need-mul-if1 Inv-loop μ-loop
+mul-if1 c = search needs
 
-entry-at-requires : tie.Need-entry-at-requires
-entry-at-requires c κs =
-    let s = c .before .before .before .before in
-    (s .pre .tied .neat, in-use (s .args .s .queue) _ (there c))
+element-copy-out-if1 : tie.Need-element-copy-out-if1 Inv-loop μ-loop
+element-copy-out-if1 c = search needs
 
-size-requires : tie.Need-size-requires
+mul-if2 : tie.Need-mul-if2 Inv-loop μ-loop
+mul-if2 c = search needs
+
+element-copy-out-if2 : tie.Need-element-copy-out-if2 Inv-loop μ-loop
+element-copy-out-if2 c = search needs
+
+add-at : tie.Need-add-at Inv-loop μ-loop
+add-at c = search needs
+
+loop-less : tie.Need-loop-less Inv-loop μ-loop
+loop-less c = search needs
+
+loop-again : tie.Need-loop-again Inv-loop μ-loop
+loop-again c =
+    let a = c .before .before in
+    let s = a .before in
+    let step = stands-step (slots s .slots) (c .before .loop-test .taken) (s .args .who) (s .args .serial) in
+    (search needs, ⊎-elim (λ w. omega (arith, a .loop .inv .1, simp (eq-eqb _ _ (w .0 .taken), w .1 .left) at step)) (λ w. omega (arith, a .loop .inv .1, simp (ne-eqb _ _ (w .left)) at step)) (c .if1 .came))
+
+is-tenant-requires : tie.Need-is-tenant-requires Inv-loop μ-loop
+is-tenant-requires c κs = search needs
+
+meter-of-requires : tie.Need-meter-of-requires Inv-loop μ-loop
+meter-of-requires c κs = search needs
+
+mul-e : tie.Need-mul-e Inv-loop μ-loop
+mul-e c = search needs
+
+element-copy-out-e : tie.Need-element-copy-out-e Inv-loop μ-loop
+element-copy-out-e c = search needs
+
+is-blocked-requires : tie.Need-is-blocked-requires Inv-loop μ-loop
+is-blocked-requires c κs = search needs
+
+size-requires : tie.Need-size-requires Inv-loop μ-loop
 size-requires c κs = search needs
 
-cast-price : tie.Need-cast-price
+cast-price : tie.Need-cast-price Inv-loop μ-loop
 cast-price c = omega (arith, c .size .ensures .1)
 
-add-price : tie.Need-add-price
+add-price : tie.Need-add-price Inv-loop μ-loop
 add-price c = omega (arith, c .size .ensures .1)
 
-alone-requires : tie.Need-alone-requires
-alone-requires c κs = search needs
+refusal-requires : tie.Need-refusal-requires Inv-loop μ-loop
+refusal-requires c κs = search needs
 
-promote-requires : tie.Need-promote-requires
-promote-requires c κs =
-    let found = c .before .before .before .before .before .before in
-    (found .before .before .before .before .pre .tied, there found)
+settled-requires : tie.Need-settled-requires Inv-loop μ-loop
+settled-requires c κs = let s = begun c in (s .pre, λ outside. number-is c ∙ outsider s outside)
 
-paid-requires : tie.Need-paid-requires
-paid-requires c κs =
-    let a = c .before .before .before in
-    let one = else1 a in
-    let fuel = ap (λ (t : Table). meterOf t (one .before .before .args .who) .fuel) (runs (c .before) .is) in
-    (passed one .0, (runs (c .before) .tied, rw (size-is (a .before .before .before), fuel) (passed one .2)))
+rechecked-requires : tie.Need-rechecked-requires Inv-loop μ-loop
+rechecked-requires c κs =
+    let n = c .before in
+    let s = begun n in
+    let p = c .settled .ensures in (
+      settled-sound (s .pre) p,
+      (
+        (λ z. rw (p .kept z) (sym (number-is n) ∙ z)),
+        (λ z. rw (p .kept z) (stood (looked-up (n .before .before)))),
+      ),
+    )
 
-returns-2 : tie.Need-returns-2
+refused : (c : tie.After-refusal Inv-loop μ-loop) → (c .refusal .result ≡ 0 → ⊥) → let s = begun c .args in (r : State) → Did r (refusedWith (view (s .t1)) (s .who) (c .refusal .result)) → Did r (recheckOf clause9 (view (s .t1)) (s .who) (s .serial))
 unfolding recheckOf
-returns-2 c =
-    let p = c .before .before in
-    let a = p .before .before in
-    let one = else1 a in
-    let s = one .before .before in
-    let t = view (s .args .s) in
-    let at = standsAt (s .args .who) (s .args .serial) (t .queue) in
-    let e = entryOf (s .args .who) (s .args .serial) (t .queue) in
-    let found = a .before .before .before .before .before in
-    let clear = sym (told a) ∙ p .before .if2 .taken in
-    let z = size-is (a .before .before .before) in
-    let b : Becomes (burn (s .args .who) (1 + size e) (withEntry t at (promoted e))) (c .paid .result) = subst₂ (λ (u : Table) (n : ℕ). Becomes (burn (s .args .who) (1 + n) u) (c .paid .result)) (runs p .is) z (c .paid .ensures) in
-    let answer = rw (found .find .ensures) at (p .promote .ensures .answers) in
-    rw clear (tenant-done t (s .args .who) _ (1 + size e) (withEntry t at (promoted e)) (named (promoted e)) (none one) (sound-burn (recheck-sound (s .pre .table) (s .args .who) (s .args .serial) (passed one .1) clear) (s .args .who) (1 + size e) (passed one .0)) b answer (ap (λ (n : ℕ). 1 + n) z))
+refused c some r d = rw (← (number-is c)) (tenant-refused _ _ _ _ _ _ some d)
 
-paid-requires-2 : tie.Need-paid-requires-2
-paid-requires-2 c κs =
-    let one = else1 (c .before) in
-    (passed one .0, (one .before .before .pre .tied, rw (size-is (c .before .before .before .before)) (passed one .2)))
-
-returns-3 : tie.Need-returns-3
-unfolding recheckOf
-returns-3 c =
-    let a = c .before .before in
-    let one = else1 a in
-    let s = one .before .before in
-    let t = view (s .args .s) in
-    let e = entryOf (s .args .who) (s .args .serial) (t .queue) in
-    let clear = sym (told a) ∙ c .before .if2 .left in
-    let z = size-is (a .before .before .before) in
-    let b : Becomes (burn (s .args .who) (1 + size e) t) (c .paid2 .result) = rw z at (c .paid2 .ensures) in
-    rw clear (tenant-done t (s .args .who) _ (1 + size e) t Still (none one) (sound-burn (s .pre .table) (s .args .who) (1 + size e) (passed one .0)) b refl (ap (λ (n : ℕ). 1 + n) z))
+returns : tie.Need-returns Inv-loop μ-loop
+returns c =
+    let n = c .before .before in
+    let s = begun n .args in
+    settled-did (s .who) (λ t. recheckOf (pricesOf t) t (s .who) (s .serial)) (c .before .settled .ensures) (c .rechecked .ensures) (refused n)
 
 pub recheck-spec : {M : Type 1} → statement M
 recheck-spec =
     tie.close
     (tie.spec
-    refusal-requires
-    refused-requires
-    returns
-    find-requires
-    entry-at-requires
+    Inv-loop
+    μ-loop
+    loop-holds
+    mul-if1
+    element-copy-out-if1
+    mul-if2
+    element-copy-out-if2
+    add-at
+    loop-less
+    loop-again
+    is-tenant-requires
+    meter-of-requires
+    mul-e
+    element-copy-out-e
+    is-blocked-requires
     size-requires
     cast-price
     add-price
-    alone-requires
-    promote-requires
-    paid-requires
-    returns-2
-    paid-requires-2
-    returns-3)
+    refusal-requires
+    settled-requires
+    rechecked-requires
+    returns)

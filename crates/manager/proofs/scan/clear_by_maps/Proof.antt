@@ -25,13 +25,13 @@ lists c =
     let l = entry-lists (s .args .e) _ (s .good .1 .1 .0) in
     (few-take (s .args .e .nr) _ (l .reads) (c .before .before .before .few .ensures), few-take (s .args .e .nw) _ (l .writes) (c .before .before .few2 .ensures))
 
-reads-written : (c : tie.After-hits) → let s = start (c .before) .args in c .hits .result ≡ some (inMap (s .written)) (request (s .e) .reads)
+reads-written : (c : tie.After-hits) → let s = start (c .before) .args in c .hits .result ≡ some (inMap (s .written .now)) (request (s .e) .reads)
 reads-written c = c .hits .ensures ∙ ap (some _) (lists (c .before) .0)
 
-writes-written : (c : tie.After-hits2) → let s = start (c .before .before .before) .args in c .hits2 .result ≡ some (inMap (s .written)) (request (s .e) .writes)
+writes-written : (c : tie.After-hits2) → let s = start (c .before .before .before) .args in c .hits2 .result ≡ some (inMap (s .written .now)) (request (s .e) .writes)
 writes-written c = c .hits2 .ensures ∙ ap (some _) (lists (c .before .before .before) .1)
 
-writes-read : (c : tie.After-hits3) → let s = start (c .before .before .before .before .before) .args in c .hits3 .result ≡ some (inMap (s .read)) (request (s .e) .writes)
+writes-read : (c : tie.After-hits3) → let s = start (c .before .before .before .before .before) .args in c .hits3 .result ≡ some (inMap (s .read .now)) (request (s .e) .writes)
 writes-read c = c .hits3 .ensures ∙ ap (some _) (lists (c .before .before .before .before .before) .1)
 
 few-requires : tie.Need-few-requires

@@ -1,96 +1,75 @@
--- Refused, or searched for and ended.
-use borrow.Author.Needs.{needs}
-use Prim.Native.Nat.{_+_, _<_}
-use native.Mathlib.Omega.{arith}
+-- What is told from the numbers is the law book's refusal; else the search is the whole call.
 use mathlib.Core.Path.{_≡_, sym, ap, _∙_}
-use mathlib.Core.Bool.{true}
-use Rattle.rules.specs.Table.{Meter as LawMeter, isTenant, meterOf, spent}
+use mathlib.Core.Bool.{false}
+use Rattle.rules.specs.Table.{Meter as LawMeter, isTenant}
+use Rattle.rules.specs.Prices.{clause9, pricesOf}
 use Rattle.rules.specs.Refusals.{firstOf, scanRows}
 use Rattle.rules.specs.Calls.{scanOf}
-use Rattle.rules.proofs.Refusals.{stranger, scan-passes}
-use Rattle.manager.specs.State.{view}
-use Rattle.rules.specs.Prices.{clause9}
-use Rattle.rules.proofs.Prices.{search-pays}
-use Rattle.rules.proofs.Keeps.{fuel-limit}
-use Rattle.manager.specs.Search.{Ended}
-use Rattle.manager.proofs.Done.{tenant-refused}
-use Rattle.manager.proofs.Searched.{whole-search}
+use Rattle.rules.proofs.Refusals.{stranger}
+use Rattle.manager.specs.declared.State.{State}
+use Rattle.manager.specs.State.{view, Did}
+use Rattle.manager.specs.Deeds.{refusedWith}
+use Rattle.manager.proofs.Done.{tenant-refused, settled-sound, settled-did}
+use Rattle.manager.proofs.Rows.{own-meter, scan-rows}
+use borrow.Author.Needs.{needs}
 use Rattle.manager.proofs.scan.scan.Statement.{statement}
 use Rattle.manager.proofs.scan.scan.Tie as tie
 use Rattle.manager.proofs.scan.scan.Reads as reads
 use Rattle.manager.proofs.scan.scan.Lts as lts
-use Rattle.manager.proofs.meters.meter_of.Reads as meter-of-reads
-use Rattle.manager.proofs.refusal.refused.Reads as refused-reads
-use Rattle.manager.proofs.scan.ended.Reads as ended-reads
+use Rattle.manager.proofs.refusal.settled.Reads as settled-reads
 use Rattle.manager.proofs.scan.refusal.Reads as refusal-reads
-use Rattle.manager.proofs.scan.walk.Reads as walk-reads
-use Rattle.meter.proofs.charged.Reads as charged-reads
+use Rattle.manager.proofs.scan.searched.Reads as searched-reads
+use Rattle.manager.proofs.tenants.is_tenant.Reads as is-tenant-reads
+use Rattle.manager.proofs.tenants.meter_of.Reads as meter-of-reads
 
-none : (c : tie.Else1) → let s = c .before .before .args in firstOf (scanRows (view (s .s)) (s .who)) ≡ 0
-none c = sym (c .before .refusal .ensures) ∙ c .if1 .left
+abbrev begun : tie.After-refusal → tie.Start
+begun c = c .before .before .before .before
 
-passed : (c : tie.Else1) → let s = c .before .before .args in (isTenant (s .who) ≡ true) × (0 < meterOf (view (s .s)) (s .who) .fuel)
-passed c = scan-passes (view (c .before .before .args .s)) _ (none c)
+number-is : (c : tie.After-refusal) → let s = begun c .args in c .refusal .result ≡ firstOf (scanRows (view (s .s)) (s .who))
+number-is c =
+    let m = c .before in
+    let s = begun c .args in
+    c .refusal .ensures ∙ scan-rows (view (s .s)) _ _ _ (m .before .before .is-tenant .ensures) (λ one. ap (λ (a : LawMeter). a .fuel) (own-meter (s .s) (s .who) _ (m .meter-of .ensures) one))
 
--- the walk, with the unit that was paid before it
-whole : (c : tie.After-walk) → let s = c .before .before .before .before .before .before .args in Ended (view (s .s)) (s .who) (record { found = c .walk .result .found; meter = c .walk .result .meter; burnt = 1 + c .walk .result .burnt })
-whole c =
-    let paid = c .before .before in
-    let one = paid .before .before in
-    let s = one .before .before .args in
-    whole-search (s .who) (passed one .1) (paid .charged .ensures ∙ ap (λ (m : LawMeter). spent m 1) (paid .before .meter-of .ensures)) (c .walk .ensures)
+outsider : (s : tie.Start) → isTenant (s .args .who) ≡ false → firstOf (scanRows (view (s .args .s)) (s .args .who)) ≡ 1
+unfolding scanRows
+outsider s outside = stranger (s .args .who) _ outside
+
+is-tenant-requires : tie.Need-is-tenant-requires
+is-tenant-requires c κs = search needs
+
+meter-of-requires : tie.Need-meter-of-requires
+meter-of-requires c κs = search needs
 
 refusal-requires : tie.Need-refusal-requires
 refusal-requires c κs = search needs
 
-refused-requires : tie.Need-refused-requires
-unfolding scanRows
-refused-requires c κs =
-    let s = c .before .before in
-    (s .pre, λ outside. c .before .refusal .ensures ∙ stranger (s .args .who) _ outside)
+settled-requires : tie.Need-settled-requires
+settled-requires c κs = let s = begun c in (s .pre, λ outside. number-is c ∙ outsider s outside)
+
+searched-requires : tie.Need-searched-requires
+searched-requires c κs =
+    let n = c .before in
+    let p = c .settled .ensures in
+    (settled-sound (begun n .pre) p, λ z. rw (p .kept z) (sym (number-is n) ∙ z))
+
+refused : (c : tie.After-refusal) → (c .refusal .result ≡ 0 → ⊥) → let s = begun c .args in (r : State) → Did r (refusedWith (view (s .s)) (s .who) (c .refusal .result)) → Did r (scanOf clause9 (view (s .s)) (s .who))
+unfolding scanOf
+refused c some r d = rw (← (number-is c)) (tenant-refused _ _ _ _ _ _ some d)
 
 returns : tie.Need-returns
-unfolding scanOf
 returns c =
-    let one = c .before in
-    rw (← (one .before .refusal .ensures)) (tenant-refused _ _ _ _ _ _ (one .if1 .taken) (c .refused .ensures))
-
-meter-of-requires : tie.Need-meter-of-requires
-meter-of-requires c κs = passed c .0
-
-charged-requires : tie.Need-charged-requires
-charged-requires c κs = omega (arith, passed (c .before) .1, ap (λ (m : LawMeter). m .fuel) (c .meter-of .ensures))
-
-walk-requires : tie.Need-walk-requires
-walk-requires c κs = c .before .before .before .before .before .pre .tied .neat
-
-add-total : tie.Need-add-total
-add-total c =
-    let w = c .before .before in
-    let one = w .before .before .before .before in
-    let s = one .before .before in
-    let t = view (s .args .s) in
-    omega (arith, whole w .burnt, search-pays clause9 t (s .args .who), fuel-limit (s .pre .table) (s .args .who) (passed one .0))
-
-ended-requires : tie.Need-ended-requires
-ended-requires c κs =
-    let w = c .before .before in
-    let one = w .before .before .before .before in
-    (one .before .before .pre, (none one, whole w))
-
-returns-2 : tie.Need-returns-2
-returns-2 c = c .ended .ensures
+    let n = c .before .before in
+    let s = begun n .args in
+    settled-did (s .who) (λ t. scanOf (pricesOf t) t (s .who)) (c .before .settled .ensures) (c .searched .ensures) (refused n)
 
 pub scan-spec : {M : Type 1} → statement M
 scan-spec =
     tie.close
     (tie.spec
-    refusal-requires
-    refused-requires
-    returns
+    is-tenant-requires
     meter-of-requires
-    charged-requires
-    walk-requires
-    add-total
-    ended-requires
-    returns-2)
+    refusal-requires
+    settled-requires
+    searched-requires
+    returns)
