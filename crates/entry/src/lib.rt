@@ -9,8 +9,10 @@ ghost use Rattle.rules.specs.declared.Mode.the-variants.{Free};
 ghost use Rattle.rules.specs.Lists.{if_then_else_};
 ghost use Rattle.rules.specs.Records.{member, rising, meets};
 ghost use Rattle.rules.specs.Request.{requested, size as sizeOf, conflict, conflictsAny, isFree, isWaiting, isBlocked, withMode, withDue, promoted as promotedOf, delivered as deliveredOf};
+ghost use Rattle.rules.specs.Calls.{named as namedOf};
 ghost use Rattle.entry.specs.Entry.{noEntry, request, Tidy, Stands, Kept};
 ghost use Rattle.entry.specs.Touch.{touchAt};
+use rules::Answer;
 use rules::Mode;
 
 // `serial` stands first: an entry then takes 24 bytes, and not 26.
@@ -206,6 +208,14 @@ pub fn delivered(e: Entry) -> Entry
     let was = e.mode;
     let mode = answered(was, left);
     changed(e, mode, left)
+}
+
+// The answer with an entry's state and its name.
+pub fn named(e: Entry) -> Answer
+    ensures { λ r. ⌜ r ≡ namedOf (request e) ⌝ }
+{
+    let mode = e.mode;
+    Answer::Named(mode, e.tenant, e.serial)
 }
 
 // A count of records, at most 8, which every entry's is: so what reads an entry asks nothing of it.

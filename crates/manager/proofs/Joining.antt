@@ -1,20 +1,28 @@
 -- A request that joins: what the counters, its own count included, tell of it, and the table with it at the back.
 use Prim.Native.Nat.{ℕ, zero, suc, _+_, _-_, _≤_, _<_}
-use mathlib.Core.Path.{_≡_, refl, ap, subst, _∙_}
+use mathlib.Core.Path.{_≡_, refl, sym, ap, subst, _∙_}
 use mathlib.Core.Bool.{Bool, true, _&&_, _||_}
 use mathlib.Core.List.{List, [], _∷_, _++_, map}
 use lib.Dec.{eqb, ltb}
 use native.Mathlib.Omega.{arith}
-use lib.ListN.{getD, take, set}
+use lib.ListN.{length, getD, take, set}
 use lib.Seq.{set-set}
+use Rattle.rules.specs.declared.Answer.{Answer}
 use Rattle.rules.specs.Lists.{if_then_else_, some, every}
 use Rattle.rules.specs.Records.{member, WellFormed}
 use Rattle.rules.specs.Request.{Request, conflictsAny, promoted, admitted}
 use Rattle.rules.specs.Table.{isTenant, meterOf, withMeter, spent, numbered, burn}
+use Rattle.rules.specs.Prices.{clause9, admission}
+use Rattle.rules.specs.Refusals.{firstOf, beginRows}
 use Rattle.rules.specs.Counters.{cx, cs, figure2, alone}
-use Rattle.rules.specs.Calls.{joined}
+use Rattle.rules.specs.Calls.{asked, beginOf, joined, named}
 use Rattle.rules.specs.Sound.{Each}
 use Rattle.rules.proofs.Tests.{if-either}
+use Rattle.rules.proofs.Admission.{Admissible}
+use Rattle.rules.proofs.Refusals.{begin-passes}
+use Rattle.rules.proofs.Room.{queue-room, sound-count}
+use Rattle.rules.proofs.Keeps.{sound-burn}
+use Rattle.rules.proofs.Sound.{begin-sound}
 use Rattle.rules.proofs.Lists.{some-in, every-in}
 use Rattle.rules.proofs.Order.{each-append}
 use Rattle.rules.proofs.Meters.{Sixteen, meter-own}
@@ -23,11 +31,16 @@ use Rattle.rules.proofs.Verdicts.{figure2-conflicts}
 use Rattle.entry.specs.declared.Entry.{Entry}
 use Rattle.entry.specs.Entry.{request, Stands}
 use Rattle.entry.proofs.Typed.{Lists, bytes-small}
-use Rattle.counters.specs.Counters.{at, Counts}
+use Rattle.counters.specs.Counters.{at, Raised, Under, Counts}
+use Rattle.counters.proofs.Laws.{counts-under, counts-raised}
+use Rattle.queue.proofs.Views.{requests-length, pushed-holds}
 use Rattle.meter.specs.declared.Meter.{Meter}
 use Rattle.meter.specs.View.{meterView}
 use Rattle.manager.specs.declared.State.{State}
-use Rattle.manager.specs.State.{view}
+use Rattle.manager.specs.State.{view, Sound, Did}
+use Rattle.manager.proofs.Done.{tenant-done}
+use Rattle.manager.proofs.Slots.{Slotted}
+use Rattle.manager.proofs.Entries.{joins-becomes}
 
 -- ---- the verdicts: the arrays say of an entry's records what the counts over the queue say
 module _ {x y : List ℕ} {l : List Request} (w : Counts (λ a. a .writes) x l) (r : Counts (λ a. a .reads) y l) (e : Entry) (b : Lists e) where
@@ -94,3 +107,52 @@ own-meters s six e h cost paid is =
 pub joined-meters : (s : State) → Sixteen (view s) → (e : Request) (who : ℕ) → e .tenant ≡ who → isTenant who ≡ true → (cost : ℕ) (paid : Meter) → meterView paid ≡ spent (numbered (meterOf (view s) who)) cost → burn who cost (joined (view s) e) ≡ record { meters = map meterView (set (s .meters) (who - 1) paid); queue = view s .queue ++ e ∷ [] }
 joined-meters s six e who own =
     subst (λ (w : ℕ). isTenant w ≡ true → (cost : ℕ) (paid : Meter) → meterView paid ≡ spent (numbered (meterOf (view s) w)) cost → burn w cost (joined (view s) e) ≡ record { meters = map meterView (set (s .meters) (w - 1) paid); queue = view s .queue ++ e ∷ [] }) own (own-meters s six e)
+
+-- ---- the request has joined, and its tenant has paid
+module _ {s : State} (h : Sound s) (k : Slotted s) (who awaited : ℕ) (reads writes : List ℕ) (none : firstOf (beginRows clause9 (view s) (asked (view s) who awaited reads writes)) ≡ 0) where
+  abbrev wanted : Request
+  wanted = asked (view s) who awaited reads writes
+
+  pub allowed : Admissible clause9 (view s) wanted
+  allowed = begin-passes clause9 (view s) wanted none
+
+  pub room : s .count < 64
+  room = omega (arith, queue-room (h .table) wanted (allowed .tenant) (allowed .place), requests-length (k .slots))
+
+  -- no counter is above 64
+  pub under : (of : Request → List ℕ) {c : List ℕ} → Counts of c (view s .queue) → Under 65 c
+  under of n =
+      let few : length (view s .queue) < 65 = omega (arith, sound-count (h .table)) in
+      counts-under of 65 few n
+
+  module _ {e joins : Entry} {x y : List ℕ} (is : request e ≡ wanted) (l : Lists e) (w : Raised (s .cx) (request e .writes) x) (r : Raised (s .cs) (request e .reads) y) (stands : Stands (if figure2 (at x) (at y) (request e) then request e else promoted (request e)) joins) where
+    fit : WellFormed (request e .reads) (request e .writes)
+    fit = subst (λ (a : Request). WellFormed (a .reads) (a .writes)) (sym is) (allowed .lists)
+
+    small : Each (λ n. n ≤ 255) (reads ++ writes)
+    small = subst (λ (a : Request). Each (λ n. n ≤ 255) (a .reads ++ a .writes)) is (records-small e l)
+
+    -- the entry that joins is the one that the law book admits
+    own : Stands (admitted (view s .queue) wanted) joins
+    own =
+        let cx-counts = counts-raised (λ a. a .writes) (request e) (fit .writes-rise) (h .tied .writers) w in
+        let cs-counts = counts-raised (λ a. a .reads) (request e) (fit .reads-rise) (h .tied .readers) r in
+        subst (λ (a : Request). Stands (admitted (view s .queue) a) joins) is (admitted-stands (view s .queue) cx-counts cs-counts l fit stands)
+
+    pub begin-did : {paid : Meter} {cost : ℕ} {answer : Answer} → cost ≡ admission clause9 wanted → meterView paid ≡ spent (numbered (meterOf (view s) who)) cost → answer ≡ named (request joins) → Did (record { cx = x; cs = y; meters = set (s .meters) (who - 1) paid; count = s .count + 1; entries = set (s .entries) (s .count) joins; said = record { answer = answer; burnt = cost } }) (beginOf clause9 (view s) who awaited reads writes)
+    unfolding beginOf
+    begin-did {paid} {cost} {answer} price pays says =
+        let t = view s in
+        let a = admitted (t .queue) wanted in
+        let reads-are = admitted-reads (t .queue) wanted in
+        let writes-are = admitted-writes (t .queue) wanted in
+        let formed : WellFormed (a .reads) (a .writes) = rw (reads-are, writes-are) (allowed .lists) in
+        let cx-raised : Raised (s .cx) (a .writes) x = rw writes-are (rw (ap (λ (b : Request). b .writes) is) at w) in
+        let cs-raised : Raised (s .cs) (a .reads) y = rw reads-are (rw (ap (λ (b : Request). b .reads) is) at r) in
+        let holds = rw (own .is) at (pushed-holds (k .slots) joins room (own .tidy)) in
+        let meters = joined-meters s (h .table .sixteen) a who (admitted-tenant (t .queue) wanted) (allowed .tenant) (admission clause9 wanted) paid (pays ∙ ap (spent _) price) in
+        tenant-done t who _ (admission clause9 wanted) (joined t a) (named a) none
+        (sound-burn (begin-sound clause9 (h .table) _ _ _ _ small allowed) who (admission clause9 wanted) (allowed .tenant))
+        (rw meters (joins-becomes (h .tied) _ a formed cx-raised cs-raised holds))
+        (says ∙ ap named (own .is))
+        price

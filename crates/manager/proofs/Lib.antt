@@ -1,6 +1,7 @@
 pub mod Typed
 pub mod Views
 pub mod Done
+pub mod Billing
 pub mod Slots
 pub mod Entries
 pub mod Rows

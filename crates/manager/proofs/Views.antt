@@ -4,7 +4,6 @@ use mathlib.Core.Path.{_≡_, refl, sym, ap, subst, _∙_}
 use mathlib.Core.Bool.{true}
 use mathlib.Core.List.{List}
 use lib.ListN.{getD, set, List·getD-map}
-use Rattle.rules.specs.declared.Answer.the-variants.{Refused}
 use Rattle.rules.specs.Table.{Meter as LawMeter, Table, isTenant, meterOf, withMeter, spent, burn}
 use Rattle.rules.specs.Prices.{clause9, charge}
 use Rattle.rules.specs.Calls.{Outcome}
@@ -17,7 +16,6 @@ use Rattle.meter.specs.View.{meterView, noMeter}
 use Rattle.manager.specs.declared.Said.{Said}
 use Rattle.manager.specs.declared.State.{State}
 use Rattle.manager.specs.State.{view, Tied, Sound, Becomes, Did}
-use Rattle.manager.specs.Deeds.{refusedWith}
 
 -- the same state with other words
 abbrev pub saying : State → Said → State
@@ -54,17 +52,3 @@ becomes-sound {t} {s} b h = record { table = subst SoundTable (sym (b .is)) h; t
 -- a call that ends with a state of the law book's table, with its answer and what it burns, did it
 pub did : {r : State} {o : Outcome} → SoundTable (o .table) → Becomes (o .table) r → r .said .answer ≡ o .answer → r .said .burnt ≡ o .burnt → Did r o
 did h b answer burnt = record { sound = becomes-sound b h; table = b .is; answer = answer; burnt = burnt }
-
--- a number that is no tenant is refused as things stand
-pub stranger-did : {s : State} → Sound s → (who number : ℕ) → number ≡ 1 → Did (saying s (record { answer = Refused number; burnt = 0 })) (refusedWith (view s) who number)
-stranger-did {s} h who number one =
-    let none : charge clause9 (meterOf (view s) who .fuel) number ≡ 0 = rw one (free-of-charge clause9 (meterOf (view s) who .fuel)) in
-    let same : burn who (charge clause9 (meterOf (view s) who .fuel) number) (view s) ≡ view s = rw none (burn-none who (view s)) in
-    did (subst SoundTable (sym same) (h .table)) (rw same (still-becomes (h .tied) _)) refl (sym none)
-
--- a tenant has paid the charge
-pub paid-did : {s : State} → Sound s → (who number price : ℕ) (m : Meter) → isTenant who ≡ true → price ≡ charge clause9 (getD (s .meters) (who - 1) noMeter .fuel) number → meterView m ≡ spent (meterView (getD (s .meters) (who - 1) noMeter)) price → Did (record { cx = s .cx; cs = s .cs; meters = set (s .meters) (who - 1) m; count = s .count; entries = s .entries; said = record { answer = Refused number; burnt = price } }) (refusedWith (view s) who number)
-paid-did {s} h who number price m tenant is paid =
-    let units = charge clause9 (meterOf (view s) who .fuel) number in
-    let cost : price ≡ units = is ∙ ap (λ (a : LawMeter). charge clause9 (a .fuel) number) (meter-view s who) in
-    did (sound-burn (h .table) who units tenant) (pays (record { is = refl; tied = h .tied }) who units m _ (paid ∙ ap (spent _) cost)) refl cost

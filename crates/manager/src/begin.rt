@@ -6,13 +6,13 @@ ghost use lib.ListN.{length};
 ghost use Rattle.rules.specs.Lists.{if_then_else_};
 ghost use Rattle.rules.specs.Request.{promoted};
 ghost use Rattle.rules.specs.Prices.{pricesOf};
-ghost use Rattle.rules.specs.Refusals.{firstOf, beginRows};
-ghost use Rattle.rules.specs.Calls.{asked, beginOf};
+ghost use Rattle.rules.specs.Refusals.{firstOf};
+ghost use Rattle.rules.specs.Counters.{figure2};
+ghost use Rattle.rules.specs.Calls.{beginOf};
 ghost use Rattle.entry.specs.Entry.{request, Tidy, Stands};
+ghost use Rattle.counters.specs.Counters.{at};
 ghost use Rattle.manager.specs.State.{view, Sound, Did};
 ghost use Rattle.manager.specs.Rows.{formRows, meansRows, beginBy};
-ghost use Rattle.manager.specs.Deeds.{Joined};
-use super::places;
 use super::refusal;
 use super::tenants;
 use crate::Said;
@@ -89,62 +89,27 @@ fn refusal(tenant: bool, m: Meter, held: usize, awaited: u8, reads: &[u8], write
     means(m, held, cost)
 }
 
-// The entry that joins: Blocked where the counters show a clash, and promoted where they do not.
-fn admitted(clash: bool, e: Entry) -> Entry
+// The entry that joins: Blocked where the counters, its own count included, show a clash, and promoted where they do not.
+fn admitted<'a>(cx: &'a [u8; 256], cs: &'a [u8; 256], e: Entry) -> Entry
     requires { ⌜ Tidy e ⌝ }
-    ensures { λ r. ⌜ Stands (if clash then request e else promoted (request e)) r ⌝ }
+    ensures { λ r. ⌜ Stands (if figure2 (at (now (cx .entry))) (at (now (cs .entry))) (request e) then request e else promoted (request e)) r ⌝ }
 {
-    if clash {
+    if counters::clashes(cx, cs, e) {
         return e;
     }
     entry::promoted(e)
 }
 
-// The request joins the back, its own counts are in when the counters are asked, and the tenant pays. Where the call was
-// refused nothing moves.
-fn joined(s: State, number: u8, who: u8, awaited: u8, reads: &[u8], writes: &[u8]) -> State
-    requires { ⌜ Sound s ⌝ }
-    requires { ⌜ (number ≡ 0 → firstOf (beginRows (pricesOf (view s)) (view s) (asked (view s) who awaited (now reads) (now writes))) ≡ 0) ⌝ }
-    ensures { λ r. ⌜ Joined s number who awaited (now (reads .entry)) (now (writes .entry)) r ⌝ }
-{
-    let mut n = s;
-    if number == 0 {
-        let i = (who - 1) as usize;
-        let m = n.meters[i];
-        let given = meter::numbered(m);
-        let cost = price(reads, writes);
-        let paid = meter::charged(given, cost);
-        n.meters[i] = paid;
-        let e = entry::made(who, given.serials, awaited, reads, writes);
-        let nr = entry::few(e.nr);
-        let nw = entry::few(e.nw);
-        let read = e.reads;
-        let written = e.writes;
-        counters::raise(&mut n.cx, written, nw);
-        counters::raise(&mut n.cs, read, nr);
-        let clash = counters::clashes(&n.cx, &n.cs, e);
-        let joins = admitted(clash, e);
-        let at = n.count;
-        n.entries[at] = joins;
-        n.count = at + 1;
-        let answer = places::named(joins);
-        let said = Said {
-            answer: answer,
-            burnt: cost,
-        };
-        n.said = said;
-    }
-    n
-}
-
+// Joining stands in its call and is no step of its own: so the state is copied once, and Begin's frame is small.
 pub fn begin(s: State, who: u8, awaited: u8, reads: &[u8], writes: &[u8]) -> State
     requires { ⌜ Sound s ⌝ }
     ensures { λ r. ⌜ Did r (beginOf (pricesOf (view s)) (view s) who awaited (now (reads .entry)) (now (writes .entry))) ⌝ }
 {
-    let all = s.meters;
+    let mut n = s;
+    let all = n.meters;
     let m = tenants::meter_of(all, who);
     let share = m.share as usize;
-    let count = s.count;
+    let count = n.count;
     // the places that the tenant holds, counted no further than its share
     let mut held: usize = 0;
     let mut i: usize = 0;
@@ -152,13 +117,41 @@ pub fn begin(s: State, who: u8, awaited: u8, reads: &[u8], writes: &[u8]) -> Sta
         if share <= held {
             break;
         }
-        if s.entries[i].tenant == who {
+        if n.entries[i].tenant == who {
             held += 1;
         }
         i += 1;
     }
     let tenant = tenants::is_tenant(who);
     let number = refusal(tenant, m, held, awaited, reads, writes);
-    let paid = refusal::settled(s, who, number);
-    joined(paid, number, who, awaited, reads, writes)
+    if number != 0 {
+        let bill = refusal::billed(all, who, number);
+        let meters = bill.meters;
+        let said = bill.said;
+        n.meters = meters;
+        n.said = said;
+        return n;
+    }
+    let given = meter::numbered(m);
+    let cost = price(reads, writes);
+    let paid = meter::charged(given, cost);
+    let k = (who - 1) as usize;
+    n.meters[k] = paid;
+    let e = entry::made(who, given.serials, awaited, reads, writes);
+    let nr = entry::few(e.nr);
+    let nw = entry::few(e.nw);
+    let read = e.reads;
+    let written = e.writes;
+    counters::raise(&mut n.cx, written, nw);
+    counters::raise(&mut n.cs, read, nr);
+    let joins = admitted(&n.cx, &n.cs, e);
+    n.entries[count] = joins;
+    n.count = count + 1;
+    let answer = entry::named(joins);
+    let said = Said {
+        answer: answer,
+        burnt: cost,
+    };
+    n.said = said;
+    n
 }

@@ -4,7 +4,6 @@ ghost use Rattle.rules.specs.Refusals.{firstOf};
 ghost use Rattle.rules.specs.Calls.{deliverOf};
 ghost use Rattle.manager.specs.State.{view, Sound, Did};
 ghost use Rattle.manager.specs.Rows.{deliverBy};
-use super::places;
 use super::tenants;
 use crate::Said;
 use crate::State;
@@ -50,7 +49,7 @@ pub fn deliver(s: State, who: u8, serial: u16) -> State
         let e = n.entries[at];
         let d = entry::delivered(e);
         n.entries[at] = d;
-        answer = places::named(d);
+        answer = entry::named(d);
     }
     let said = Said {
         answer: answer,

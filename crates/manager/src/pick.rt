@@ -1,7 +1,6 @@
 // Pick: the front entry, if it is Blocked, is promoted, whatever the counters say.
 ghost use Rattle.rules.specs.Calls.{pickOf};
 ghost use Rattle.manager.specs.State.{view, Sound, Did};
-use super::places;
 use crate::Said;
 use crate::State;
 use rules::Answer;
@@ -18,7 +17,7 @@ pub fn pick(s: State) -> State
         if entry::is_blocked(mode) {
             let p = entry::promoted(e);
             n.entries[0] = p;
-            answer = places::named(p);
+            answer = entry::named(p);
         }
     }
     let said = Said {

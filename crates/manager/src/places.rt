@@ -1,25 +1,14 @@
-// An entry that leaves its place, and the answer that names one.
+// An entry that leaves its place.
 ghost use mathlib.Core.Path.{_≡_};
 ghost use Prim.Native.Nat.{_<_};
 ghost use lib.ListN.{length, getD};
 ghost use Rattle.rules.specs.Records.{WellFormed};
 ghost use Rattle.rules.specs.Request.{nobody};
-ghost use Rattle.rules.specs.Calls.{named as namedOf};
-ghost use Rattle.entry.specs.Entry.{request};
 ghost use Rattle.manager.specs.State.{view, Tied};
 ghost use Rattle.manager.specs.Deeds.{Released};
 use crate::Said;
 use crate::State;
-use entry::Entry;
 use rules::Answer;
-
-// The answer with an entry's state and its name.
-pub fn named(e: Entry) -> Answer
-    ensures { λ r. ⌜ r ≡ namedOf (request e) ⌝ }
-{
-    let mode = e.mode;
-    Answer::Named(mode, e.tenant, e.serial)
-}
 
 // The entry at a place leaves: its counters fall, those behind it are shifted down, and the last slot is emptied. Where the
 // call was refused nothing moves.

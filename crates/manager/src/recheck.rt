@@ -6,7 +6,6 @@ ghost use Rattle.rules.specs.Calls.{recheckOf};
 ghost use Rattle.manager.specs.State.{view, Sound, Did};
 ghost use Rattle.manager.specs.Rows.{recheckBy};
 ghost use Rattle.manager.specs.Deeds.{Rechecked};
-use super::places;
 use super::refusal;
 use super::tenants;
 use crate::Said;
@@ -49,7 +48,7 @@ fn rechecked(s: State, number: u8, who: u8, serial: u16, at: usize) -> State
         if counters::alone(&n.cx, &n.cs, e) {
             let p = entry::promoted(e);
             n.entries[at] = p;
-            answer = places::named(p);
+            answer = entry::named(p);
         }
         let price = 1 + entry::size(e) as u32;
         let i = (who - 1) as usize;

@@ -4,10 +4,11 @@ ghost use mathlib.Core.Bool.{false};
 ghost use Rattle.rules.specs.Table.{isTenant};
 ghost use Rattle.rules.specs.Prices.{clause9, charge as chargeOf};
 ghost use Rattle.manager.specs.State.{Sound};
-ghost use Rattle.manager.specs.Deeds.{Settled};
+ghost use Rattle.manager.specs.Deeds.{Billed, Settled};
 use super::tenants;
 use crate::Said;
 use crate::State;
+use meter::Meter;
 use rules::Answer;
 
 // What a refusal burns: 1 for the numbers 3 to 11, nothing for the others.
@@ -26,7 +27,36 @@ fn burns(number: u8, fuel: u32) -> u32
     1
 }
 
-// Pays for a refusal; where the number is 0 there is none, and the state stays as it is.
+// The meters once a refused call has paid, and what it says.
+pub struct Bill {
+    pub meters: [Meter; 16],
+    pub said: Said,
+}
+
+// A tenant pays what its refusal burns; who is none has nothing to pay.
+pub fn billed(all: [Meter; 16], who: u8, number: u8) -> Bill
+    ensures { λ r. ⌜ Billed all who number r ⌝ }
+{
+    let mut meters = all;
+    let mut burnt: u32 = 0;
+    if tenants::is_tenant(who) {
+        let i = (who - 1) as usize;
+        let m = meters[i];
+        burnt = burns(number, m.fuel);
+        let paid = meter::charged(m, burnt);
+        meters[i] = paid;
+    }
+    let said = Said {
+        answer: Answer::Refused(number),
+        burnt: burnt,
+    };
+    Bill {
+        meters: meters,
+        said: said,
+    }
+}
+
+// The first step of a call: it pays where it was refused. Where the number is 0 it was not, and the state stays as it is.
 pub fn settled(s: State, who: u8, number: u8) -> State
     requires { ⌜ Sound s ⌝ }
     requires { ⌜ (isTenant who ≡ false → number ≡ 1) ⌝ }
@@ -34,18 +64,11 @@ pub fn settled(s: State, who: u8, number: u8) -> State
 {
     let mut n = s;
     if number != 0 {
-        let mut burnt: u32 = 0;
-        if tenants::is_tenant(who) {
-            let i = (who - 1) as usize;
-            let m = n.meters[i];
-            burnt = burns(number, m.fuel);
-            let paid = meter::charged(m, burnt);
-            n.meters[i] = paid;
-        }
-        let said = Said {
-            answer: Answer::Refused(number),
-            burnt: burnt,
-        };
+        let all = n.meters;
+        let bill = billed(all, who, number);
+        let meters = bill.meters;
+        let said = bill.said;
+        n.meters = meters;
         n.said = said;
     }
     n

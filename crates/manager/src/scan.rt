@@ -14,7 +14,6 @@ ghost use Rattle.manager.specs.State.{view, Sound, Did};
 ghost use Rattle.manager.specs.Rows.{scanBy};
 ghost use Rattle.manager.specs.Search.{mapsOf};
 ghost use Rattle.manager.specs.Deeds.{Searched};
-use super::places;
 use super::refusal;
 use super::tenants;
 use crate::Said;
@@ -110,7 +109,7 @@ fn searched(s: State, number: u8, who: u8) -> State
             if sought(who, e.tenant, mode) && clear_by_maps(&written, &read, e) {
                 let p = entry::promoted(e);
                 n.entries[i] = p;
-                answer = places::named(p);
+                answer = entry::named(p);
                 break;
             }
             let nr = entry::few(e.nr);

@@ -1,42 +1,60 @@
--- The places held are counted as far as the share; what is told from the numbers is the law book's refusal.
-use Prim.Native.Nat.{_≤_, _-_, _+_}
+-- The places held are counted as far as the share. What is told from the numbers is the law book's refusal; else the serial is
+-- given and the price paid, the counters rise and tell the verdict, and the entry joins the back.
+use Prim.Native.Nat.{ℕ, _≤_, _<_, _-_, _+_}
 use native.Mathlib.Omega.{arith}
 use mathlib.Core.Path.{_≡_, refl, sym, ap, _∙_}
 use mathlib.Core.Bool.{true, false}
 use mathlib.Core.Logic.{⊎-elim}
 use lib.Dec.{leb}
-use lib.ListN.{drop}
+use lib.ListN.{take, drop}
 use borrow.Author.Tests.{eq-eqb, ne-eqb, le-leb}
-use Rattle.rules.specs.Table.{Meter as LawMeter, isTenant, placesOf}
-use Rattle.rules.specs.Prices.{clause9, pricesOf}
+use Rattle.rules.specs.Request.{Request, requested, size}
+use Rattle.rules.specs.Table.{Meter as LawMeter, isTenant, meterOf, spent, numbered, placesOf}
+use Rattle.rules.specs.Prices.{clause9, admission}
 use Rattle.rules.specs.Refusals.{firstOf, beginRows}
 use Rattle.rules.specs.Calls.{asked, beginOf}
+use Rattle.rules.proofs.Admission.{Admissible}
+use Rattle.rules.proofs.Meters.{tenant-range}
+use Rattle.rules.proofs.Prices.{admission-price}
 use Rattle.rules.proofs.Refusals.{stranger}
+use Rattle.meter.specs.View.{meterView}
+use Rattle.entry.specs.Entry.{request}
+use Rattle.entry.proofs.Typed.{Lists, entry-lists, few-take}
 use Rattle.queue.proofs.Views.{places-step, places-end}
-use Rattle.manager.specs.declared.State.{State}
 use Rattle.manager.specs.State.{view, Did}
 use Rattle.manager.specs.Deeds.{refusedWith}
-use Rattle.manager.proofs.Done.{tenant-refused, settled-sound, settled-did}
+use Rattle.manager.proofs.Typed.{state-sized}
+use Rattle.manager.proofs.Done.{tenant-refused}
+use Rattle.manager.proofs.Billing.{billing, billed-did}
 use Rattle.manager.proofs.Slots.{Slotted, slotted}
 use Rattle.manager.proofs.Rows.{own-meter, begin-rows}
+use Rattle.manager.proofs.Joining.{allowed, room, under, begin-did}
 use borrow.Author.Needs.{needs}
 use Rattle.manager.proofs.begin.begin.Statement.{statement}
 use Rattle.manager.proofs.begin.begin.Tie as tie
 use Rattle.manager.proofs.begin.begin.Reads as reads
 use Rattle.manager.proofs.begin.begin.Lts as lts
-use Rattle.manager.proofs.begin.joined.Reads as joined-reads
+use Rattle.counters.proofs.raise.Reads as raise-reads
+use Rattle.entry.proofs.few.Reads as few-reads
+use Rattle.entry.proofs.made.Reads as made-reads
+use Rattle.entry.proofs.named.Reads as named-reads
+use Rattle.manager.proofs.begin.admitted.Reads as admitted-reads
+use Rattle.manager.proofs.begin.price.Reads as price-reads
 use Rattle.manager.proofs.begin.refusal.Reads as refusal-reads
-use Rattle.manager.proofs.refusal.settled.Reads as settled-reads
+use Rattle.manager.proofs.refusal.billed.Reads as billed-reads
 use Rattle.manager.proofs.tenants.is_tenant.Reads as is-tenant-reads
 use Rattle.manager.proofs.tenants.meter_of.Reads as meter-of-reads
+use Rattle.meter.proofs.charged.Reads as charged-reads
+use Rattle.meter.proofs.numbered.Reads as numbered-reads
 
 abbrev Inv-loop : tie.InvT-loop
-Inv-loop who awaited reads writes s m share count held₀ i₀ held i =
+Inv-loop who awaited reads writes s all m share count held₀ i₀ held i =
     (i ≤ count) × (held ≤ i) × (placesOf (view s .queue) who ≡ held + placesOf (drop i (view s .queue)) who)
 
 abbrev μ-loop : tie.MeasureT-loop
-μ-loop who awaited reads writes s m share count held₀ i₀ held i = count - i
+μ-loop who awaited reads writes s all m share count held₀ i₀ held i = count - i
 
+-- ---- the refusal
 -- from the loop back to the meter, and to the start
 abbrev read-meter : tie.At-loop Inv-loop μ-loop → tie.After-meter-of Inv-loop μ-loop
 read-meter a = a .before .before
@@ -47,35 +65,103 @@ begun a = read-meter a .before .before .before .before
 abbrev counted : tie.After-refusal Inv-loop μ-loop → tie.Left-loop Inv-loop μ-loop
 counted c = c .before .before
 
-slots : (s : tie.Start Inv-loop μ-loop) → Slotted (s .args .t1)
-slots s = slotted (s .args .t1) _ (s .good .0) (s .pre .tied)
+abbrev asks : tie.Start Inv-loop μ-loop → Request
+asks s = asked (view (s .args .s)) (s .args .who) (s .args .awaited) (s .args .reads .now) (s .args .writes .now)
+
+slots : (s : tie.Start Inv-loop μ-loop) → Slotted (s .args .s)
+slots s = slotted (s .args .s) _ (s .good .0) (s .pre .tied)
+
+own : (c : tie.After-meter-of Inv-loop μ-loop) → let s = c .before .before .before .before .args in isTenant (s .who) ≡ true → meterView (c .meter-of .result) ≡ meterOf (view (s .s)) (s .who)
+own c = let s = c .before .before .before .before .args in own-meter (s .s) (s .who) _ (c .meter-of .ensures)
 
 -- the count stops at the share, and that it is reached is told all the same
-full-is : (c : tie.Left-loop Inv-loop μ-loop) → let a = c .before in let s = begun a .args in let share = read-meter a .meter-of .result .share in leb share (a .loop .held) ≡ leb share (placesOf (view (s .t1) .queue) (s .who))
+full-is : (c : tie.Left-loop Inv-loop μ-loop) → let a = c .before in let s = begun a .args in let share = read-meter a .meter-of .result .share in leb share (a .loop .held) ≡ leb share (placesOf (view (s .s) .queue) (s .who))
 full-is c =
     let a = c .before in
     let s = begun a in
     let share = read-meter a .meter-of .result .share in
-    let q = view (s .args .t1) .queue in
+    let q = view (s .args .s) .queue in
     ⊎-elim
     (λ w. let all : a .loop .held ≡ placesOf q (s .args .who) = omega (arith, a .loop .inv .2, places-end (slots s .slots) (w .left) (s .args .who)) in ap (leb share) all)
     (λ w. let more : share ≤ placesOf q (s .args .who) = omega (arith, a .loop .inv .2, w .1 .taken) in le-leb share (a .loop .held) (w .1 .taken) ∙ sym (le-leb share (placesOf q (s .args .who)) more))
     (c .loop-test .came)
 
-number-is : (c : tie.After-refusal Inv-loop μ-loop) → let s = begun (counted c .before) .args in c .refusal .result ≡ firstOf (beginRows clause9 (view (s .t1)) (asked (view (s .t1)) (s .who) (s .awaited) (s .reads .now) (s .writes .now)))
+number-is : (c : tie.After-refusal Inv-loop μ-loop) → let s = begun (counted c .before) in c .refusal .result ≡ firstOf (beginRows clause9 (view (s .args .s)) (asks s))
 number-is c =
     let out = counted c in
     let a = out .before in
     let s = begun a .args in
-    let q = view (s .t1) .queue in
-    c .refusal .ensures ∙ begin-rows (view (s .t1)) (s .who) (s .awaited) (s .reads .now) (s .writes .now) _ _ _ _ (c .before .is-tenant .ensures)
+    let q = view (s .s) .queue in
+    c .refusal .ensures ∙ begin-rows (view (s .s)) (s .who) (s .awaited) (s .reads .now) (s .writes .now) _ _ _ _ (c .before .is-tenant .ensures)
     (λ one.
-    let own = own-meter (s .t1) (s .who) _ (read-meter a .meter-of .ensures) one in
-    (ap (λ (m : LawMeter). m .fuel) own, ap (λ (m : LawMeter). m .serials) own, full-is out ∙ ap (λ (m : LawMeter). leb (m .share) (placesOf q (s .who))) own))
+    let is = own (read-meter a) one in
+    (ap (λ (m : LawMeter). m .fuel) is, ap (λ (m : LawMeter). m .serials) is, full-is out ∙ ap (λ (m : LawMeter). leb (m .share) (placesOf q (s .who))) is))
 
-outsider : (s : tie.Start Inv-loop μ-loop) → isTenant (s .args .who) ≡ false → firstOf (beginRows clause9 (view (s .args .t1)) (asked (view (s .args .t1)) (s .args .who) (s .args .awaited) (s .args .reads .now) (s .args .writes .now))) ≡ 1
+outsider : (s : tie.Start Inv-loop μ-loop) → isTenant (s .args .who) ≡ false → firstOf (beginRows clause9 (view (s .args .s)) (asks s)) ≡ 1
 unfolding beginRows
 outsider s outside = stranger (s .args .who) _ outside
+
+refused : (c : tie.After-billed Inv-loop μ-loop) → let s = begun (counted (c .before .before) .before) .args in Did (billing (s .s) (c .billed .result)) (beginOf clause9 (view (s .s)) (s .who) (s .awaited) (s .reads .now) (s .writes .now))
+unfolding beginOf
+refused c =
+    let n = c .before .before in
+    let s = begun (counted n .before) in
+    rw (← (number-is n)) (tenant-refused _ _ _ _ _ _ (c .before .if3 .taken) (billed-did (s .pre) (s .args .who) (n .refusal .result) (λ outside. number-is n ∙ outsider s outside) (c .billed .ensures)))
+
+-- ---- the request that joins
+-- from where nothing was refused back to the start
+abbrev start : tie.Else3 Inv-loop μ-loop → tie.Start Inv-loop μ-loop
+start c = begun (counted (c .before) .before)
+
+none : (c : tie.Else3 Inv-loop μ-loop) → let s = start c in firstOf (beginRows clause9 (view (s .args .s)) (asks s)) ≡ 0
+none c = sym (number-is (c .before)) ∙ c .if3 .left
+
+passed : (c : tie.Else3 Inv-loop μ-loop) → let s = start c in Admissible clause9 (view (s .args .s)) (asks s)
+passed c = let s = start c in allowed (s .pre) (slots s) _ _ _ _ (none c)
+
+place : (c : tie.Else3 Inv-loop μ-loop) → start c .args .s .count < 64
+place c = let s = start c in room (s .pre) (slots s) _ _ _ _ (none c)
+
+range : (c : tie.Else3 Inv-loop μ-loop) → (1 ≤ start c .args .who) × (start c .args .who ≤ 16)
+range c = tenant-range (start c .args .who) (passed c .tenant)
+
+meter-is : (c : tie.Else3 Inv-loop μ-loop) → let s = start c .args in meterView (read-meter (counted (c .before) .before) .meter-of .result) ≡ meterOf (view (s .s)) (s .who)
+meter-is c = own (read-meter (counted (c .before) .before)) (passed c .tenant)
+
+-- the price is the law's
+price-is : (c : tie.After-price Inv-loop μ-loop) → c .price .result ≡ admission clause9 (asks (start (c .before .before)))
+unfolding size
+price-is c = c .price .ensures ∙ sym (admission-price (asks (start (c .before .before))))
+
+-- the entry that is made holds the request
+abbrev unrefused : tie.After-made Inv-loop μ-loop → tie.Else3 Inv-loop μ-loop
+unrefused c = c .before .before .before .before
+
+made-is : (c : tie.After-made Inv-loop μ-loop) → request (c .made .result) ≡ asks (start (unrefused c))
+made-is c =
+    let one = unrefused c in
+    let s = start one .args in
+    let next = ap (λ (m : LawMeter). m .serials) (c .before .before .before .numbered .ensures) ∙ ap (λ (m : LawMeter). m .serials + 1) (meter-is one) in
+    c .made .ensures .is ∙ ap (λ (n : ℕ). requested (s .who) n (s .awaited) (s .reads .now) (s .writes .now)) next
+
+lists : (c : tie.After-made Inv-loop μ-loop) → Lists (c .made .result)
+lists c = entry-lists (c .made .result) _ (c .made .ok)
+
+abbrev made-of : tie.After-few2 Inv-loop μ-loop → tie.After-made Inv-loop μ-loop
+made-of c = c .before .before
+
+read-list : (c : tie.After-few Inv-loop μ-loop) → let e = c .before .made .result in take (c .few .result) (e .reads) ≡ request e .reads
+read-list c = few-take _ (c .few .result) (lists (c .before) .reads) (c .few .ensures)
+
+write-list : (c : tie.After-few2 Inv-loop μ-loop) → let e = made-of c .made .result in take (c .few2 .result) (e .writes) ≡ request e .writes
+write-list c = few-take _ (c .few2 .result) (lists (made-of c) .writes) (c .few2 .ensures)
+
+-- from the raised counters back to the lists' lengths
+abbrev raised-by : tie.After-raise Inv-loop μ-loop → tie.After-few2 Inv-loop μ-loop
+raised-by c = c .before .before .before .before
+
+abbrev both-raised : tie.After-admitted Inv-loop μ-loop → tie.After-raise2 Inv-loop μ-loop
+both-raised c = c .before .before .before .before
 
 meter-of-requires : tie.Need-meter-of-requires Inv-loop μ-loop
 meter-of-requires c κs = search needs
@@ -118,25 +204,89 @@ is-tenant-requires c κs = search needs
 refusal-requires : tie.Need-refusal-requires Inv-loop μ-loop
 refusal-requires c κs = search needs
 
-settled-requires : tie.Need-settled-requires Inv-loop μ-loop
-settled-requires c κs = let s = begun (counted c .before) in (s .pre, λ outside. number-is c ∙ outsider s outside)
-
-joined-requires : tie.Need-joined-requires Inv-loop μ-loop
-joined-requires c κs =
-    let n = c .before in
-    let s = begun (counted n .before) in
-    let p = c .settled .ensures in
-    (settled-sound (s .pre) p, λ z. rw (p .kept z) (sym (number-is n) ∙ z))
-
-refused : (c : tie.After-refusal Inv-loop μ-loop) → (c .refusal .result ≡ 0 → ⊥) → let s = begun (counted c .before) .args in (r : State) → Did r (refusedWith (view (s .t1)) (s .who) (c .refusal .result)) → Did r (beginOf clause9 (view (s .t1)) (s .who) (s .awaited) (s .reads .now) (s .writes .now))
-unfolding beginOf
-refused c some r d = rw (← (number-is c)) (tenant-refused _ _ _ _ _ _ some d)
+billed-requires : tie.Need-billed-requires Inv-loop μ-loop
+billed-requires c κs = search needs
 
 returns : tie.Need-returns Inv-loop μ-loop
-returns c =
-    let n = c .before .before in
-    let s = begun (counted n .before) .args in
-    settled-did (s .who) (λ t. beginOf (pricesOf t) t (s .who) (s .awaited) (s .reads .now) (s .writes .now)) (c .before .settled .ensures) (c .joined .ensures) (refused n)
+returns c = refused (c .before .before)
+
+numbered-requires : tie.Need-numbered-requires Inv-loop μ-loop
+numbered-requires c κs = omega (arith, passed c .serial, ap (λ (m : LawMeter). m .serials) (meter-is c))
+
+price-requires : tie.Need-price-requires Inv-loop μ-loop
+price-requires c κs = let a = passed (c .before) in (a .lists .few-reads, a .lists .few-writes)
+
+charged-requires : tie.Need-charged-requires Inv-loop μ-loop
+charged-requires c κs =
+    let n = c .before in
+    let fuel = ap (λ (m : LawMeter). m .fuel) (n .numbered .ensures) ∙ ap (λ (m : LawMeter). m .fuel) (meter-is (n .before)) in
+    omega (arith, passed (n .before) .fuel, fuel, price-is c)
+
+sub-k : tie.Need-sub-k Inv-loop μ-loop
+sub-k c = range (c .before .before .before) .0
+
+cast-k : tie.Need-cast-k Inv-loop μ-loop
+cast-k c = search needs
+
+mul-paid : tie.Need-mul-paid Inv-loop μ-loop
+mul-paid c = omega (arith, range (c .before .before .before) .1)
+
+element-set-from-paid : tie.Need-element-set-from-paid Inv-loop μ-loop
+element-set-from-paid c = omega (arith, range (c .before .before .before) .1)
+
+made-requires : tie.Need-made-requires Inv-loop μ-loop
+made-requires c κs = let a = passed (c .before .before .before) in (a .lists .few-reads, a .lists .few-writes)
+
+few-requires : tie.Need-few-requires Inv-loop μ-loop
+few-requires c κs = search needs
+
+few-requires-2 : tie.Need-few-requires-2 Inv-loop μ-loop
+few-requires-2 c κs = search needs
+
+raise-requires : tie.Need-raise-requires Inv-loop μ-loop
+raise-requires c κs =
+    let two = c .before .before .before in
+    let one = unrefused (made-of two) in
+    let s = start one in
+    (omega (arith, two .few2 .ensures), (under (s .pre) (slots s) _ _ _ _ (none one) (λ a. a .writes) (s .pre .tied .writers), state-sized (s .args .s) _ (s .good .0) .writers))
+
+raise-requires-2 : tie.Need-raise-requires-2 Inv-loop μ-loop
+raise-requires-2 c κs =
+    let few = raised-by (c .before) .before in
+    let one = unrefused (few .before) in
+    let s = start one in
+    (omega (arith, few .few .ensures), (under (s .pre) (slots s) _ _ _ _ (none one) (λ a. a .reads) (s .pre .tied .readers), state-sized (s .args .s) _ (s .good .0) .readers))
+
+admitted-requires : tie.Need-admitted-requires Inv-loop μ-loop
+admitted-requires c κs = made-of (raised-by (c .before .before .before .before .before)) .made .ensures .tidy
+
+mul-joins : tie.Need-mul-joins Inv-loop μ-loop
+mul-joins c = omega (arith, place (unrefused (made-of (raised-by (both-raised c .before .before)))))
+
+element-set-from-joins : tie.Need-element-set-from-joins Inv-loop μ-loop
+element-set-from-joins c = place (unrefused (made-of (raised-by (both-raised c .before .before))))
+
+add-n : tie.Need-add-n Inv-loop μ-loop
+add-n c = omega (arith, place (unrefused (made-of (raised-by (both-raised c .before .before)))))
+
+named-requires : tie.Need-named-requires Inv-loop μ-loop
+named-requires c κs = search needs
+
+returns-2 : tie.Need-returns-2 Inv-loop μ-loop
+returns-2 c =
+    let j = c .before in
+    let up = both-raised j in
+    let first = up .before .before in
+    let two = raised-by first in
+    let made = made-of two in
+    let one = unrefused made in
+    let s = start one in
+    let paid = made .before in
+    let cost = price-is (paid .before) in
+    let given = paid .before .before .numbered .ensures ∙ ap numbered (meter-is one) in
+    let x = rw (write-list two) at (first .raise .ensures) in
+    let y = rw (read-list (two .before)) at (up .raise2 .ensures) in
+    begin-did (s .pre) (slots s) _ _ _ _ (none one) (made-is made) (lists made) x y (j .admitted .ensures) cost (paid .charged .ensures ∙ ap (λ (m : LawMeter). spent m (paid .before .price .result)) given) (c .named .ensures)
 
 pub begin-spec : {M : Type 1} → statement M
 begin-spec =
@@ -155,6 +305,23 @@ begin-spec =
     loop-again
     is-tenant-requires
     refusal-requires
-    settled-requires
-    joined-requires
-    returns)
+    billed-requires
+    returns
+    numbered-requires
+    price-requires
+    charged-requires
+    sub-k
+    cast-k
+    mul-paid
+    element-set-from-paid
+    made-requires
+    few-requires
+    few-requires-2
+    raise-requires
+    raise-requires-2
+    admitted-requires
+    mul-joins
+    element-set-from-joins
+    add-n
+    named-requires
+    returns-2)

@@ -25,7 +25,7 @@ use Rattle.manager.proofs.deliver.deliver.Reads as reads
 use Rattle.manager.proofs.deliver.deliver.Lts as lts
 use Rattle.entry.proofs.delivered.Reads as delivered-reads
 use Rattle.manager.proofs.deliver.refusal.Reads as refusal-reads
-use Rattle.manager.proofs.places.named.Reads as named-reads
+use Rattle.entry.proofs.named.Reads as named-reads
 use Rattle.manager.proofs.tenants.is_tenant.Reads as is-tenant-reads
 
 abbrev Inv-loop : tie.InvT-loop

@@ -10,7 +10,7 @@ use Rattle.manager.proofs.pick.pick.Reads as reads
 use Rattle.manager.proofs.pick.pick.Lts as lts
 use Rattle.entry.proofs.is_blocked.Reads as is-blocked-reads
 use Rattle.entry.proofs.promoted.Reads as promoted-reads
-use Rattle.manager.proofs.places.named.Reads as named-reads
+use Rattle.entry.proofs.named.Reads as named-reads
 
 slots : (s : tie.Start) → Slotted (s .args .s)
 slots s = slotted (s .args .s) _ (s .good .0) (s .pre .tied)

@@ -17,7 +17,7 @@ use Rattle.manager.proofs.recheck.rechecked.Lts as lts
 use Rattle.counters.proofs.alone.Reads as alone-reads
 use Rattle.entry.proofs.promoted.Reads as promoted-reads
 use Rattle.entry.proofs.size.Reads as size-reads
-use Rattle.manager.proofs.places.named.Reads as named-reads
+use Rattle.entry.proofs.named.Reads as named-reads
 use Rattle.meter.proofs.charged.Reads as charged-reads
 
 slots : (s : tie.Start) → Slotted (s .args .s)

@@ -31,7 +31,7 @@ use Rattle.entry.proofs.size.Reads as size-reads
 use Rattle.maps.proofs.add.Reads as add-reads
 use Rattle.manager.proofs.scan.clear_by_maps.Reads as clear-by-maps-reads
 use Rattle.manager.proofs.scan.sought.Reads as sought-reads
-use Rattle.manager.proofs.places.named.Reads as named-reads
+use Rattle.entry.proofs.named.Reads as named-reads
 use Rattle.maps.proofs.none.Reads as none-reads
 use Rattle.meter.proofs.charged.Reads as charged-reads
 
