@@ -5,7 +5,6 @@ use mathlib.Core.Bool.{Bool, true, false}
 use mathlib.Core.List.{List, map}
 use lib.ListN.{getD, set}
 use Rattle.rules.specs.declared.Answer.the-variants.{Refused}
-use Rattle.rules.specs.Lists.{if_then_else_}
 use Rattle.rules.specs.Table.{Meter as LawMeter, isTenant, meterOf, spent, burn}
 use Rattle.rules.specs.Prices.{clause9, charge}
 use Rattle.rules.specs.Sound.{SoundTable}
@@ -16,7 +15,7 @@ use Rattle.meter.specs.declared.Meter.{Meter}
 use Rattle.meter.specs.View.{meterView, noMeter}
 use Rattle.manager.specs.declared.refusal.Bill.{Bill}
 use Rattle.manager.specs.declared.State.{State}
-use Rattle.manager.specs.State.{view, Tied, Sound, Becomes, Did}
+use Rattle.manager.specs.State.{view, Sound, Becomes, Did}
 use Rattle.manager.specs.Deeds.{refusedWith, Billed}
 use Rattle.manager.proofs.Views.{meter-view, did}
 

@@ -1,19 +1,16 @@
--- The ways out of a call: refused or done, once for the host's calls and once for a tenant's; and a tenant's call in two
--- steps, of which the first pays for a refusal and the second does the deed where there is none.
+-- The ways out of a call: refused or done, once for the host's calls and once for a tenant's.
 use Prim.Native.Nat.{ℕ}
-use mathlib.Core.Path.{_≡_, refl, sym, subst}
-use mathlib.Core.Bool.{Bool, true, false}
-use lib.Dec.{eqb}
-use borrow.Author.Tests.{eq-eqb, ne-eqb, eqb-true, eqb-false}
+use mathlib.Core.Path.{_≡_}
+use borrow.Author.Tests.{eq-eqb, ne-eqb}
 use Rattle.rules.specs.declared.Answer.{Answer}
 use Rattle.rules.specs.declared.Answer.the-variants.{Refused}
 use Rattle.rules.specs.Table.{Table, burn}
 use Rattle.rules.specs.Prices.{clause9}
-use Rattle.rules.specs.Calls.{Outcome, hostCall, tenantCall}
+use Rattle.rules.specs.Calls.{hostCall, tenantCall}
 use Rattle.rules.specs.Sound.{SoundTable}
 use Rattle.manager.specs.declared.State.{State}
-use Rattle.manager.specs.State.{view, Sound, Becomes, Did}
-use Rattle.manager.specs.Deeds.{refusedWith, Settled, Unrefused}
+use Rattle.manager.specs.State.{Becomes, Did}
+use Rattle.manager.specs.Deeds.{refusedWith}
 use Rattle.manager.proofs.Views.{did}
 
 -- ---- the host's calls
@@ -29,21 +26,3 @@ tenant-refused t who number price deed answer some d = rw (ne-eqb number 0 some)
 
 pub tenant-done : {r : State} (t : Table) (who number price : ℕ) (deed : Table) (answer : Answer) → number ≡ 0 → SoundTable (burn who price deed) → Becomes (burn who price deed) r → r .said .answer ≡ answer → r .said .burnt ≡ price → Did r (tenantCall clause9 t who number price deed answer)
 tenant-done t who number price deed answer none h b same cost = rw (eq-eqb number 0 none) (did h b same cost)
-
--- ---- the two steps
-pub settled-sound : {s b : State} {who number : ℕ} → Sound s → Settled s who number b → Sound b
-settled-sound {s} {b} {who} {number} h p = go (eqb number 0) refl
-  where
-    go : (t : Bool) → eqb number 0 ≡ t → Sound b
-    go true z = subst Sound (sym (p .kept (eqb-true number 0 z))) h
-    go false z = p .refused (eqb-false number 0 z) .sound
-
--- a call that answers a refusal so, and whose deed is the whole of it
-pub settled-did : {s b r : State} (who : ℕ) {number : ℕ} (call : Table → Outcome) → Settled s who number b → Unrefused number b (λ n. Did n (call (view b))) r → ((number ≡ 0 → ⊥) → (n : State) → Did n (refusedWith (view s) who number) → Did n (call (view s))) → Did r (call (view s))
-settled-did {s} {b} {r} who {number} call p d refused = go (eqb number 0) refl
-  where
-    go : (t : Bool) → eqb number 0 ≡ t → Did r (call (view s))
-    go true z = let none = eqb-true number 0 z in subst (λ (n : State). Did r (call (view n))) (p .kept none) (d .done none)
-    go false z =
-        let some = eqb-false number 0 z in
-        refused some r (subst (λ (n : State). Did n (refusedWith (view s) who number)) (sym (d .kept some)) (p .refused some))

@@ -8,7 +8,7 @@ use lib.ListN.{length, getD, set}
 use Rattle.rules.specs.declared.Answer.{Answer}
 use Rattle.rules.specs.declared.Answer.the-variants.{Still}
 use Rattle.rules.specs.Lists.{if_then_else_}
-use Rattle.rules.specs.Request.{Request, nobody, size, promoted}
+use Rattle.rules.specs.Request.{nobody, size, promoted}
 use Rattle.rules.specs.Table.{Meter as LawMeter, Table, isTenant, meterOf, spent}
 use Rattle.rules.specs.Prices.{clause9}
 use Rattle.rules.specs.Refusals.{firstOf, standsAt, isAbsent, entryOf, recheckRows}
@@ -21,13 +21,14 @@ use Rattle.rules.proofs.Sound.{recheck-sound}
 use Rattle.meter.specs.declared.Meter.{Meter}
 use Rattle.meter.specs.View.{meterView, noMeter}
 use Rattle.entry.specs.declared.Entry.{Entry}
-use Rattle.entry.specs.Entry.{blank, request, Stands}
+use Rattle.entry.specs.Entry.{blank, request, Tidy, Stands}
+use Rattle.entry.proofs.Typed.{Lists}
 use Rattle.counters.specs.Counters.{at as counter}
 use Rattle.manager.specs.declared.State.{State}
 use Rattle.manager.specs.State.{view, Sound, Becomes, Did}
 use Rattle.manager.proofs.Views.{meter-view, pays}
 use Rattle.manager.proofs.Done.{tenant-done}
-use Rattle.manager.proofs.Slots.{Slotted, withEntries, used, below, own-lists}
+use Rattle.manager.proofs.Slots.{Slotted, withEntries, used, own-lists}
 use Rattle.manager.proofs.Entries.{promoted-lists, makes-becomes, makes-named}
 use Rattle.manager.proofs.Rows.{entry-is}
 use Rattle.manager.proofs.Joining.{alone-told}
@@ -53,35 +54,6 @@ module _ {s : State} (h : Sound s) (k : Slotted s) (who serial : ℕ) {at : ℕ}
   pub there : at < length (view s .queue)
   there = omega (arith, here who serial (view s .queue) (passes .1))
 
-  entry : request (getD (s .entries) at blank) ≡ entryOf who serial (view s .queue)
-  entry = entry-is (k .slots) who serial place (used k there)
-
-  -- the price is within the tenant's fuel
-  pub affords : {n : State} {answer : Answer} → Turned s who serial n answer → (units : ℕ) → units ≡ size (request (getD (s .entries) at blank)) → 1 + units ≤ getD (n .meters) (who - 1) noMeter .fuel
-  affords {n} o units sized =
-      let fuel : getD (n .meters) (who - 1) noMeter .fuel ≡ meterOf (view s) who .fuel = ap (λ (ms : List Meter). getD ms (who - 1) noMeter .fuel) (o .meters) ∙ ap (λ (m : LawMeter). m .fuel) (meter-view s who) in
-      omega (arith, fuel, sized ∙ ap size entry, passes .2)
-
-  module _ (verdict : Bool) (told : verdict ≡ alone (counter (s .cx)) (counter (s .cs)) (request (getD (s .entries) at blank))) where
-    is-clear : verdict ≡ clear (view s) who serial
-    is-clear = told ∙ alone-told (h .tied .writers) (h .tied .readers) (getD (s .entries) at blank) (own-lists k there) ∙ ap (alone _ _) entry
-
-    pub turned-clear : verdict ≡ true → {p : Entry} {answer : Answer} → Stands (promoted (request (getD (s .entries) at blank))) p → answer ≡ named (request p) → Turned s who serial (withEntries s (set (s .entries) at p)) answer
-    turned-clear sure {p} stands says =
-        let open-way : clear (view s) who serial ≡ true = sym is-clear ∙ sure in
-        let made = makes-becomes (h .tied) k promoted promoted-lists (used k there) stands (s .said) in
-        let moved : promoted (getD (view s .queue) at nobody) ≡ promoted (entryOf who serial (view s .queue)) = ap (λ (i : ℕ). promoted (getD (view s .queue) i nobody)) place in
-        record {
-          state = rw open-way (subst (λ (i : ℕ). Becomes (withEntry (view s) i (promoted (getD (view s .queue) i nobody))) (withEntries s (set (s .entries) at p))) place made);
-          says = rw open-way (says ∙ makes-named (h .tied) k promoted promoted-lists (used k there) stands ∙ ap named moved);
-          meters = refl;
-        }
-
-    pub turned-still : verdict ≡ false → Turned s who serial s Still
-    turned-still sure =
-        let no-way : clear (view s) who serial ≡ false = sym is-clear ∙ sure in
-        record { state = rw no-way (record { is = refl; tied = h .tied }); says = rw no-way refl; meters = refl }
-
   turned-sound : SoundTable (turned (view s) who serial)
   turned-sound = go (clear (view s) who serial) refl
     where
@@ -89,15 +61,52 @@ module _ {s : State} (h : Sound s) (k : Slotted s) (who serial : ℕ) {at : ℕ}
       go true open-way = rw open-way (recheck-sound (h .table) who serial (passes .1) open-way)
       go false no-way = rw no-way (h .table)
 
-  -- the tenant has paid
-  pub rechecks : {n : State} {answer : Answer} → Turned s who serial n answer → (units : ℕ) → units ≡ size (request (getD (s .entries) at blank)) → (m : Meter) → meterView m ≡ spent (meterView (getD (n .meters) (who - 1) noMeter)) (1 + units) → Did (record { cx = n .cx; cs = n .cs; meters = set (n .meters) (who - 1) m; count = n .count; entries = n .entries; said = record { answer = answer; burnt = 1 + units } }) (recheckOf clause9 (view s) who serial)
-  unfolding recheckOf
-  rechecks {n} {answer} o units sized m paid =
-      let t = view s in
-      let e = entryOf who serial (t .queue) in
-      let cost : 1 + units ≡ 1 + size e = ap (λ (u : ℕ). 1 + u) (sized ∙ ap size entry) in
-      tenant-done t who _ (1 + size e) (turned t who serial) _ none
-      (sound-burn turned-sound who (1 + size e) (passes .0))
-      (pays (o .state) who (1 + size e) m _ (paid ∙ ap (spent _) cost))
-      (o .says)
-      cost
+  -- the entry that was read
+  module _ {e : Entry} (read : e ≡ getD (s .entries) at blank) where
+    entry : request e ≡ entryOf who serial (view s .queue)
+    entry = ap request read ∙ entry-is (k .slots) who serial place (used k there)
+
+    pub is-tidy : Tidy e
+    is-tidy = subst Tidy (sym read) (k .slots .neat .tidy at (used k there))
+
+    -- the price is within the tenant's fuel
+    pub affords : (units : ℕ) → units ≡ size (request e) → {m : Meter} → meterView m ≡ meterOf (view s) who → 1 + units ≤ m .fuel
+    affords units sized own = omega (arith, ap (λ (a : LawMeter). a .fuel) own, sized ∙ ap size entry, passes .2)
+
+    module _ (verdict : Bool) (told : verdict ≡ alone (counter (s .cx)) (counter (s .cs)) (request e)) where
+      is-clear : verdict ≡ clear (view s) who serial
+      is-clear =
+          told
+          ∙ alone-told (h .tied .writers) (h .tied .readers) e (subst Lists (sym read) (own-lists k there))
+          ∙ ap (alone _ _) entry
+
+      pub turned-clear : verdict ≡ true → {p : Entry} {answer : Answer} → Stands (promoted (request e)) p → answer ≡ named (request p) → Turned s who serial (withEntries s (set (s .entries) at p)) answer
+      turned-clear sure {p} stands says =
+          let open-way : clear (view s) who serial ≡ true = sym is-clear ∙ sure in
+          let own : Stands (promoted (request (getD (s .entries) at blank))) p = subst (λ (a : Entry). Stands (promoted (request a)) p) read stands in
+          let made = makes-becomes (h .tied) k promoted promoted-lists (used k there) own (s .said) in
+          let moved : promoted (getD (view s .queue) at nobody) ≡ promoted (entryOf who serial (view s .queue)) = ap (λ (i : ℕ). promoted (getD (view s .queue) i nobody)) place in
+          record {
+            state = rw open-way (subst (λ (i : ℕ). Becomes (withEntry (view s) i (promoted (getD (view s .queue) i nobody))) (withEntries s (set (s .entries) at p))) place made);
+            says = rw open-way (says ∙ makes-named (h .tied) k promoted promoted-lists (used k there) own ∙ ap named moved);
+            meters = refl;
+          }
+
+      pub turned-still : verdict ≡ false → Turned s who serial s Still
+      turned-still sure =
+          let no-way : clear (view s) who serial ≡ false = sym is-clear ∙ sure in
+          record { state = rw no-way (record { is = refl; tied = h .tied }); says = rw no-way refl; meters = refl }
+
+    -- the tenant has paid
+    pub rechecks : {n : State} {answer : Answer} → Turned s who serial n answer → (units : ℕ) → units ≡ size (request e) → {m : Meter} → meterView m ≡ meterOf (view s) who → (paid : Meter) → meterView paid ≡ spent (meterView m) (1 + units) → Did (record { cx = n .cx; cs = n .cs; meters = set (n .meters) (who - 1) paid; count = n .count; entries = n .entries; said = record { answer = answer; burnt = 1 + units } }) (recheckOf clause9 (view s) who serial)
+    unfolding recheckOf
+    rechecks {n} {answer} o units sized {m} own paid pays-it =
+        let t = view s in
+        let last = entryOf who serial (t .queue) in
+        let cost : 1 + units ≡ 1 + size last = ap (λ (u : ℕ). 1 + u) (sized ∙ ap size entry) in
+        let same : meterView (getD (n .meters) (who - 1) noMeter) ≡ meterView m = ap (λ (ms : List Meter). meterView (getD ms (who - 1) noMeter)) (o .meters) ∙ meter-view s who ∙ sym own in
+        tenant-done t who _ (1 + size last) (turned t who serial) _ none
+        (sound-burn turned-sound who (1 + size last) (passes .0))
+        (pays (o .state) who (1 + size last) paid _ (pays-it ∙ cc (same, cost)))
+        (o .says)
+        cost

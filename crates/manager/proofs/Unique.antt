@@ -16,7 +16,6 @@ use Rattle.entry.specs.Entry.{request, noEntry, blank, Tidy}
 use Rattle.counters.specs.Counters.{Counts}
 use Rattle.queue.specs.Queue.{Queue, requests}
 use Rattle.queue.proofs.Views.{requests-length}
-use Rattle.manager.specs.declared.Said.{Said}
 use Rattle.manager.specs.declared.State.{State}
 use Rattle.manager.specs.State.{queueOf, view}
 use Rattle.manager.specs.Tight.{SoundValue, ViewTells, Allowed, OneResult}

@@ -1,16 +1,12 @@
 -- The state and its table: how a change of the one shows in the other.
 use Prim.Native.Nat.{ℕ, _-_}
 use mathlib.Core.Path.{_≡_, refl, sym, ap, subst, _∙_}
-use mathlib.Core.Bool.{true}
 use mathlib.Core.List.{List}
 use lib.ListN.{getD, set, List·getD-map}
-use Rattle.rules.specs.Table.{Meter as LawMeter, Table, isTenant, meterOf, withMeter, spent, burn}
-use Rattle.rules.specs.Prices.{clause9, charge}
+use Rattle.rules.specs.Table.{Meter as LawMeter, Table, meterOf, withMeter, spent, burn}
 use Rattle.rules.specs.Calls.{Outcome}
 use Rattle.rules.specs.Sound.{SoundTable}
 use Rattle.rules.proofs.Mapped.{map-set}
-use Rattle.rules.proofs.Refusals.{free-of-charge}
-use Rattle.rules.proofs.Keeps.{burn-none, sound-burn}
 use Rattle.meter.specs.declared.Meter.{Meter}
 use Rattle.meter.specs.View.{meterView, noMeter}
 use Rattle.manager.specs.declared.Said.{Said}

@@ -33,24 +33,32 @@ pub fn finish(s: State, who: u8, serial: u16) -> State
     requires { ⌜ Sound s ⌝ }
     ensures { λ r. ⌜ Did r (finishOf (pricesOf (view s)) (view s) who serial) ⌝ }
 {
-    let count = s.count;
+    let mut n = s;
+    let count = n.count;
     let mut at: usize = 0;
     while at < count {
-        if s.entries[at].tenant == who && s.entries[at].serial == serial {
+        if n.entries[at].tenant == who && n.entries[at].serial == serial {
             break;
         }
         at += 1;
     }
     let tenant = tenants::is_tenant(who);
-    let all = s.meters;
+    let all = n.meters;
     let m = tenants::meter_of(all, who);
     let mut free = false;
     if at < count {
-        let e = s.entries[at];
+        let e = n.entries[at];
         let mode = e.mode;
         free = entry::is_free(mode);
     }
     let number = refusal(tenant, m.fuel, count <= at, free);
-    let paid = refusal::settled(s, who, number);
-    places::released(paid, number, at)
+    if number != 0 {
+        let bill = refusal::billed(all, who, number);
+        let meters = bill.meters;
+        let said = bill.said;
+        n.meters = meters;
+        n.said = said;
+        return n;
+    }
+    places::released(n, at)
 }

@@ -1,13 +1,9 @@
 // A refused call of a tenant: nothing changes but its fuel, and what is said.
 ghost use mathlib.Core.Path.{_≡_};
-ghost use mathlib.Core.Bool.{false};
-ghost use Rattle.rules.specs.Table.{isTenant};
 ghost use Rattle.rules.specs.Prices.{clause9, charge as chargeOf};
-ghost use Rattle.manager.specs.State.{Sound};
-ghost use Rattle.manager.specs.Deeds.{Billed, Settled};
+ghost use Rattle.manager.specs.Deeds.{Billed};
 use super::tenants;
 use crate::Said;
-use crate::State;
 use meter::Meter;
 use rules::Answer;
 
@@ -54,22 +50,4 @@ pub fn billed(all: [Meter; 16], who: u8, number: u8) -> Bill
         meters: meters,
         said: said,
     }
-}
-
-// The first step of a call: it pays where it was refused. Where the number is 0 it was not, and the state stays as it is.
-pub fn settled(s: State, who: u8, number: u8) -> State
-    requires { ⌜ Sound s ⌝ }
-    requires { ⌜ (isTenant who ≡ false → number ≡ 1) ⌝ }
-    ensures { λ r. ⌜ Settled s who number r ⌝ }
-{
-    let mut n = s;
-    if number != 0 {
-        let all = n.meters;
-        let bill = billed(all, who, number);
-        let meters = bill.meters;
-        let said = bill.said;
-        n.meters = meters;
-        n.said = said;
-    }
-    n
 }

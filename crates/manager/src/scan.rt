@@ -13,7 +13,6 @@ ghost use Rattle.entry.specs.Entry.{request};
 ghost use Rattle.manager.specs.State.{view, Sound, Did};
 ghost use Rattle.manager.specs.Rows.{scanBy};
 ghost use Rattle.manager.specs.Search.{mapsOf};
-ghost use Rattle.manager.specs.Deeds.{Searched};
 use super::refusal;
 use super::tenants;
 use crate::Said;
@@ -76,57 +75,64 @@ fn sought(who: u8, tenant: u8, mode: Mode) -> bool
     entry::is_blocked(mode)
 }
 
-// The search from the front. Each entry is paid for before it is looked at, and the two maps grow by it. Where the call was
-// refused nothing moves.
+// The search from the front, where the call is not refused. Each entry is paid for before it is looked at, and the two maps
+// grow by it.
 fn searched(s: State, number: u8, who: u8) -> State
     requires { ⌜ Sound s ⌝ }
-    requires { ⌜ (number ≡ 0 → firstOf (scanRows (view s) who) ≡ 0) ⌝ }
-    ensures { λ r. ⌜ Searched s number who r ⌝ }
+    requires { ⌜ number ≡ firstOf (scanRows (view s) who) ⌝ }
+    ensures { λ r. ⌜ Did r (scanOf (pricesOf (view s)) (view s) who) ⌝ }
 {
     let mut n = s;
-    if number == 0 {
-        let k = (who - 1) as usize;
-        let m = n.meters[k];
-        let begun = meter::charged(m, 1);
-        let mut left = begun;
-        let mut burnt: u32 = 0;
-        let mut answer = Answer::Nothing;
-        let mut written = maps::none();
-        let mut read = maps::none();
-        let count = n.count;
-        let mut i: usize = 0;
-        while i < count {
-            let e = n.entries[i];
-            let cost = 1 + entry::size(e) as u32;
-            if left.fuel < cost {
-                answer = Answer::Refused(9);
-                break;
-            }
-            let paid = meter::charged(left, cost);
-            left = paid;
-            burnt += cost;
-            let mode = e.mode;
-            if sought(who, e.tenant, mode) && clear_by_maps(&written, &read, e) {
-                let p = entry::promoted(e);
-                n.entries[i] = p;
-                answer = entry::named(p);
-                break;
-            }
-            let nr = entry::few(e.nr);
-            let nw = entry::few(e.nw);
-            let reads = e.reads;
-            let writes = e.writes;
-            maps::add(&mut written, writes, nw);
-            maps::add(&mut read, reads, nr);
-            i += 1;
-        }
-        n.meters[k] = left;
-        let said = Said {
-            answer: answer,
-            burnt: 1 + burnt,
-        };
+    if number != 0 {
+        let all = n.meters;
+        let bill = refusal::billed(all, who, number);
+        let meters = bill.meters;
+        let said = bill.said;
+        n.meters = meters;
         n.said = said;
+        return n;
     }
+    let k = (who - 1) as usize;
+    let m = n.meters[k];
+    let begun = meter::charged(m, 1);
+    let mut left = begun;
+    let mut burnt: u32 = 0;
+    let mut answer = Answer::Nothing;
+    let mut written = maps::none();
+    let mut read = maps::none();
+    let count = n.count;
+    let mut i: usize = 0;
+    while i < count {
+        let e = n.entries[i];
+        let cost = 1 + entry::size(e) as u32;
+        if left.fuel < cost {
+            answer = Answer::Refused(9);
+            break;
+        }
+        let paid = meter::charged(left, cost);
+        left = paid;
+        burnt += cost;
+        let mode = e.mode;
+        if sought(who, e.tenant, mode) && clear_by_maps(&written, &read, e) {
+            let p = entry::promoted(e);
+            n.entries[i] = p;
+            answer = entry::named(p);
+            break;
+        }
+        let nr = entry::few(e.nr);
+        let nw = entry::few(e.nw);
+        let reads = e.reads;
+        let writes = e.writes;
+        maps::add(&mut written, writes, nw);
+        maps::add(&mut read, reads, nr);
+        i += 1;
+    }
+    n.meters[k] = left;
+    let said = Said {
+        answer: answer,
+        burnt: 1 + burnt,
+    };
+    n.said = said;
     n
 }
 
@@ -138,6 +144,5 @@ pub fn scan(s: State, who: u8) -> State
     let all = s.meters;
     let m = tenants::meter_of(all, who);
     let number = refusal(tenant, m.fuel);
-    let paid = refusal::settled(s, who, number);
-    searched(paid, number, who)
+    searched(s, number, who)
 }

@@ -2,7 +2,7 @@
 -- given and the price paid, the counters rise and tell the verdict, and the entry joins the back.
 use Prim.Native.Nat.{ℕ, _≤_, _<_, _-_, _+_}
 use native.Mathlib.Omega.{arith}
-use mathlib.Core.Path.{_≡_, refl, sym, ap, _∙_}
+use mathlib.Core.Path.{_≡_, sym, ap, _∙_}
 use mathlib.Core.Bool.{true, false}
 use mathlib.Core.Logic.{⊎-elim}
 use lib.Dec.{leb}
@@ -22,7 +22,6 @@ use Rattle.entry.specs.Entry.{request}
 use Rattle.entry.proofs.Typed.{Lists, entry-lists, few-take}
 use Rattle.queue.proofs.Views.{places-step, places-end}
 use Rattle.manager.specs.State.{view, Did}
-use Rattle.manager.specs.Deeds.{refusedWith}
 use Rattle.manager.proofs.Typed.{state-sized}
 use Rattle.manager.proofs.Done.{tenant-refused}
 use Rattle.manager.proofs.Billing.{billing, billed-did}

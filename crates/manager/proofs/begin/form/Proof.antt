@@ -1,7 +1,7 @@
 -- By the rows, in order.
 use mathlib.Core.Path.{_≡_, sym, _∙_}
 use mathlib.Core.Bool.{true, false}
-use borrow.Author.Tests.{not-true, not-false, eq-eqb, ne-eqb, lt-ltb, le-ltb, le-leb, lt-leb}
+use borrow.Author.Tests.{not-true, not-false, lt-ltb, le-ltb}
 use Rattle.rules.specs.Refusals.{firstOf}
 use mathlib.Core.Bool.{_&&_, _||_}
 use lib.Dec.{ltb}

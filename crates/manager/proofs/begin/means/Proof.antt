@@ -1,7 +1,5 @@
 -- By the rows, in order.
-use mathlib.Core.Path.{_≡_, sym, _∙_}
-use mathlib.Core.Bool.{true, false}
-use borrow.Author.Tests.{not-true, not-false, eq-eqb, ne-eqb, lt-ltb, le-ltb, le-leb, lt-leb}
+use borrow.Author.Tests.{lt-ltb, le-ltb, le-leb, lt-leb}
 use Rattle.rules.specs.Refusals.{firstOf}
 use Rattle.manager.specs.Rows.{meansRows}
 use borrow.Author.Needs.{needs}

@@ -1,7 +1,7 @@
 -- Row 1, row 2, the rows of the form, the rows of the means.
 use mathlib.Core.Path.{_≡_, sym, _∙_}
-use mathlib.Core.Bool.{true, false}
-use borrow.Author.Tests.{not-true, not-false, eq-eqb, ne-eqb, lt-ltb, le-ltb, le-leb, lt-leb}
+use mathlib.Core.Bool.{true}
+use borrow.Author.Tests.{not-false, eq-eqb, ne-eqb}
 use Rattle.rules.specs.Refusals.{firstOf}
 use Rattle.manager.specs.Rows.{beginBy}
 use Rattle.manager.proofs.Rows.{begin-form, begin-means, form-short}

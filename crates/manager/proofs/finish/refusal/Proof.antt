@@ -2,12 +2,10 @@ use mathlib.Core.Path.{_≡_}
 use mathlib.Core.Bool.{true, _||_, not}
 use mathlib.Core.Logic.{⊎-elim}
 -- By the rows, in order; a Free entry of the name passes before the tank is asked.
-use mathlib.Core.Path.{sym}
 use borrow.Author.Tests.{not-true, not-false, eq-eqb, ne-eqb}
 use Rattle.rules.specs.Refusals.{firstOf}
 use Rattle.rules.proofs.Tests.{and-false}
 use Rattle.manager.specs.Rows.{finishBy}
-use borrow.Author.Needs.{needs}
 use Rattle.manager.proofs.finish.refusal.Statement.{statement}
 use Rattle.manager.proofs.finish.refusal.Tie as tie
 use Rattle.manager.proofs.finish.refusal.Reads as reads

@@ -5,7 +5,6 @@ use borrow.Author.Tests.{lt-ltb, le-ltb}
 use Rattle.rules.specs.Table.{mostFuel}
 use Rattle.rules.specs.Refusals.{firstOf}
 use Rattle.manager.specs.Rows.{grantBy}
-use borrow.Author.Needs.{needs}
 use Rattle.manager.proofs.grant.refusal.Statement.{statement}
 use Rattle.manager.proofs.grant.refusal.Tie as tie
 use Rattle.manager.proofs.grant.refusal.Reads as reads

@@ -21,41 +21,41 @@ use Rattle.entry.proofs.few.Reads as few-reads
 use Rattle.counters.proofs.lower.Reads as lower-reads
 
 abbrev Inv-loop : tie.InvT-loop
-Inv-loop number at n₀ nr nw last j₀ n j = (at ≤ j) × (j ≤ last) × Shifted at j (n₀ .entries) (n .entries) × Framed n₀ n
+Inv-loop at n₀ nr nw last j₀ n j = (at ≤ j) × (j ≤ last) × Shifted at j (n₀ .entries) (n .entries) × Framed n₀ n
 
 abbrev μ-loop : tie.MeasureT-loop
-μ-loop number at n₀ nr nw last j₀ n j = last - j
+μ-loop at n₀ nr nw last j₀ n j = last - j
 
 slots : (c : tie.Start Inv-loop μ-loop) → Slotted (c .args .s)
 slots c = slotted (c .args .s) _ (c .good .0) (c .pre .0)
 
--- the call is not refused, so the place holds an entry with lists in order
-there : (c : tie.Then1 Inv-loop μ-loop) → c .before .args .at < length (view (c .before .args .s) .queue)
-there c = c .before .pre .1 .0 (c .if1 .taken)
+-- the place holds an entry with lists in order
+there : (c : tie.Start Inv-loop μ-loop) → c .args .at < length (view (c .args .s) .queue)
+there c = c .pre .1 .0
 
-formed : (c : tie.Then1 Inv-loop μ-loop) → let e = getD (view (c .before .args .s) .queue) (c .before .args .at) nobody in WellFormed (e .reads) (e .writes)
-formed c = c .before .pre .1 .1 (c .if1 .taken)
+formed : (c : tie.Start Inv-loop μ-loop) → let e = getD (view (c .args .s) .queue) (c .args .at) nobody in WellFormed (e .reads) (e .writes)
+formed c = c .pre .1 .1
 
 -- the records that are counted are the entry's
-read-list : (c : tie.After-few Inv-loop μ-loop) → let s = c .before .before .before .args in take (c .few .result) (getD (s .s .entries) (s .at) blank .reads) ≡ getD (view (s .s) .queue) (s .at) nobody .reads
+read-list : (c : tie.After-few Inv-loop μ-loop) → let s = c .before .before .args in take (c .few .result) (getD (s .s .entries) (s .at) blank .reads) ≡ getD (view (s .s) .queue) (s .at) nobody .reads
 read-list c =
     let one = c .before .before in
-    reads-are (own (slots (one .before)) (there one)) (own-lists (slots (one .before)) (there one)) (c .few .result) (c .few .ensures)
+    reads-are (own (slots one) (there one)) (own-lists (slots one) (there one)) (c .few .result) (c .few .ensures)
 
-write-list : (c : tie.After-few2 Inv-loop μ-loop) → let s = c .before .before .before .before .args in take (c .few2 .result) (getD (s .s .entries) (s .at) blank .writes) ≡ getD (view (s .s) .queue) (s .at) nobody .writes
+write-list : (c : tie.After-few2 Inv-loop μ-loop) → let s = c .before .before .before .args in take (c .few2 .result) (getD (s .s .entries) (s .at) blank .writes) ≡ getD (view (s .s) .queue) (s .at) nobody .writes
 write-list c =
     let one = c .before .before .before in
-    writes-are (own (slots (one .before)) (there one)) (own-lists (slots (one .before)) (there one)) (c .few2 .result) (c .few2 .ensures)
+    writes-are (own (slots one) (there one)) (own-lists (slots one) (there one)) (c .few2 .result) (c .few2 .ensures)
 
--- from the loop back to the test
-abbrev tested : tie.After-lower2 Inv-loop μ-loop → tie.Then1 Inv-loop μ-loop
-tested c = c .before .before .before .before .before .before .before .before .before
+-- from the loop back to the start
+abbrev begun : tie.After-lower2 Inv-loop μ-loop → tie.Start Inv-loop μ-loop
+begun c = c .before .before .before .before .before .before .before .before .before
 
 mul-e : tie.Need-mul-e Inv-loop μ-loop
-mul-e c = omega (arith, below (slots (c .before)) (there c))
+mul-e c = omega (arith, below (slots c) (there c))
 
 element-copy-out-e : tie.Need-element-copy-out-e Inv-loop μ-loop
-element-copy-out-e c = below (slots (c .before)) (there c)
+element-copy-out-e c = below (slots c) (there c)
 
 few-requires : tie.Need-few-requires Inv-loop μ-loop
 few-requires c κs = search needs
@@ -67,34 +67,34 @@ lower-requires : tie.Need-lower-requires Inv-loop μ-loop
 lower-requires c κs =
     let two = c .before .before .before in
     let one = two .before .before .before in
-    (omega (arith, two .few2 .ensures), rw (write-list two) (writes-stocked (one .before .pre .0) (one .before .args .at) (there one) (formed one)))
+    (omega (arith, two .few2 .ensures), rw (write-list two) (writes-stocked (one .pre .0) (one .args .at) (there one) (formed one)))
 
 lower-requires-2 : tie.Need-lower-requires-2 Inv-loop μ-loop
 lower-requires-2 c κs =
     let few = c .before .before .before .before .before .before in
     let one = few .before .before in
-    (omega (arith, few .few .ensures), rw (read-list few) (reads-stocked (one .before .pre .0) (one .before .args .at) (there one) (formed one)))
+    (omega (arith, few .few .ensures), rw (read-list few) (reads-stocked (one .pre .0) (one .args .at) (there one) (formed one)))
 
 sub-last : tie.Need-sub-last Inv-loop μ-loop
-sub-last c = let one = tested c in omega (arith, used (slots (one .before)) (there one))
+sub-last c = let one = begun c in omega (arith, used (slots one) (there one))
 
 loop-holds : tie.Need-loop-holds Inv-loop μ-loop
-loop-holds c = let one = tested c in (omega arith, omega (arith, used (slots (one .before)) (there one)), shift-none _ _, record { same = refl })
+loop-holds c = let one = begun c in (omega arith, omega (arith, used (slots one) (there one)), shift-none _ _, record { same = refl })
 
 add-f : tie.Need-add-f Inv-loop μ-loop
 add-f c = search needs
 
 mul-f : tie.Need-mul-f Inv-loop μ-loop
-mul-f c = omega (arith, tested (c .before .before) .before .pre .0 .neat .within)
+mul-f c = omega (arith, begun (c .before .before) .pre .0 .neat .within)
 
 element-copy-out-f : tie.Need-element-copy-out-f Inv-loop μ-loop
-element-copy-out-f c = omega (arith, tested (c .before .before) .before .pre .0 .neat .within)
+element-copy-out-f c = omega (arith, begun (c .before .before) .pre .0 .neat .within)
 
 mul-f-2 : tie.Need-mul-f-2 Inv-loop μ-loop
-mul-f-2 c = omega (arith, tested (c .before .before .before) .before .pre .0 .neat .within)
+mul-f-2 c = omega (arith, begun (c .before .before .before) .pre .0 .neat .within)
 
 element-set-from-f : tie.Need-element-set-from-f Inv-loop μ-loop
-element-set-from-f c = omega (arith, tested (c .before .before .before) .before .pre .0 .neat .within)
+element-set-from-f c = omega (arith, begun (c .before .before .before) .pre .0 .neat .within)
 
 add-j : tie.Need-add-j Inv-loop μ-loop
 add-j c = search needs
@@ -105,7 +105,7 @@ loop-less c = search needs
 loop-again : tie.Need-loop-again Inv-loop μ-loop
 loop-again c =
     let a = c .before .before in
-    let s = tested (a .before) .before in
+    let s = begun (a .before) in
     let lt : a .loop .j + 1 < length (s .args .s .entries) = omega (arith, slots s .slots .full, s .pre .0 .neat .within) in
     (omega arith, omega arith, shift-more (a .loop .inv .2) (a .loop .inv .0) lt _, frame-more _ (a .loop .inv .3))
 
@@ -113,33 +113,26 @@ empty-requires : tie.Need-empty-requires Inv-loop μ-loop
 empty-requires c κs = search needs
 
 mul-unused : tie.Need-mul-unused Inv-loop μ-loop
-mul-unused c = omega (arith, tested (c .before .before .before) .before .pre .0 .neat .within)
+mul-unused c = omega (arith, begun (c .before .before .before) .pre .0 .neat .within)
 
 element-set-from-unused : tie.Need-element-set-from-unused Inv-loop μ-loop
-element-set-from-unused c = omega (arith, tested (c .before .before .before) .before .pre .0 .neat .within)
+element-set-from-unused c = omega (arith, begun (c .before .before .before) .pre .0 .neat .within)
 
 returns : tie.Need-returns Inv-loop μ-loop
 returns c =
     let a = c .before .before in
     let low = a .before in
-    let one = tested low in
-    let s = one .before in
+    let s = begun low in
     let end : a .loop .j ≡ s .args .s .count - 1 = omega arith in
-    let more : s .args .s .count - 1 + 1 ≡ s .args .s .count = omega (arith, used (slots s) (there one)) in
+    let more : s .args .s .count - 1 + 1 ≡ s .args .s .count = omega (arith, used (slots s) (there s)) in
     let x = rw (write-list (low .before .before .before .before .before .before)) at (low .before .before .lower .ensures) in
     let y = rw (read-list (low .before .before .before .before .before .before .before)) at (low .lower2 .ensures) in
     let q = removed-holds (slots s .slots) (rw end at (a .loop .inv .2)) (omega arith) more in
     record {
-      done = λ z. record {
-        state = rw (a .loop .inv .3 .same, c .empty .ensures) (leaves-becomes (s .pre .0) (s .args .at) (there one) (formed one) x y q);
-        answer = refl;
-        burnt = refl;
-      };
-      kept = λ some. absurd (some (one .if1 .taken));
+      state = rw (a .loop .inv .3 .same, c .empty .ensures) (leaves-becomes (s .pre .0) (s .args .at) (there s) (formed s) x y q);
+      answer = refl;
+      burnt = refl;
     }
-
-returns-2 : tie.Need-returns-2 Inv-loop μ-loop
-returns-2 c = record { done = λ z. absurd (c .if1 .left z); kept = λ some. refl }
 
 pub released-spec : {M : Type 1} → statement M
 released-spec =
@@ -166,5 +159,4 @@ released-spec =
     empty-requires
     mul-unused
     element-set-from-unused
-    returns
-    returns-2)
+    returns)

@@ -14,7 +14,6 @@ use Rattle.queue.specs.Queue.{queued}
 use Rattle.queue.proofs.Views.{requests-length, request-at}
 use Rattle.manager.specs.State.{queueOf, view}
 use Rattle.manager.proofs.Slots.{Slotted, slotted}
-use borrow.Author.Needs.{needs}
 use Rattle.manager.proofs.scan.clear_by_pairs.Statement.{statement}
 use Rattle.manager.proofs.scan.clear_by_pairs.Tie as tie
 use Rattle.manager.proofs.scan.clear_by_pairs.Reads as reads

@@ -1,10 +1,7 @@
 -- By the rows, in order.
-use mathlib.Core.Path.{sym}
-use borrow.Author.Tests.{not-true, not-false, eq-eqb, ne-eqb}
+use borrow.Author.Tests.{eq-eqb, ne-eqb}
 use Rattle.rules.specs.Refusals.{firstOf}
-use Rattle.rules.proofs.Tests.{and-false}
 use Rattle.manager.specs.Rows.{scanBy}
-use borrow.Author.Needs.{needs}
 use Rattle.manager.proofs.scan.refusal.Statement.{statement}
 use Rattle.manager.proofs.scan.refusal.Tie as tie
 use Rattle.manager.proofs.scan.refusal.Reads as reads

@@ -1,6 +1,6 @@
--- The walk of the law book goes on from the entry that the loop has reached; until it is left, the state has not moved.
+-- A refused call has paid. Else the walk of the law book goes on from the entry that the loop has reached; until it is left, the state has not moved.
 use borrow.Author.Needs.{needs}
-use Prim.Native.Nat.{_+_, _-_, _<_, _≤_}
+use Prim.Native.Nat.{_-_, _<_, _≤_}
 use native.Mathlib.Omega.{arith}
 use mathlib.Core.Path.{_≡_, refl, sym, ap, subst, _∙_}
 use mathlib.Core.Bool.{true, false}
@@ -9,16 +9,19 @@ use lib.ListN.{length, getD, take}
 use Rattle.rules.specs.declared.Answer.the-variants.{Nothing}
 use Rattle.rules.specs.Table.{Meter as LawMeter, isTenant, meterOf, mostFuel}
 use Rattle.rules.specs.Refusals.{firstOf, scanRows}
+use Rattle.rules.specs.Calls.{scanOf}
 use Rattle.rules.proofs.Meters.{tenant-range}
 use Rattle.rules.proofs.Keeps.{fuel-limit}
-use Rattle.rules.proofs.Refusals.{scan-passes}
+use Rattle.rules.proofs.Refusals.{stranger, scan-passes}
 use Rattle.meter.specs.View.{noMeter}
 use Rattle.entry.specs.Entry.{blank, request}
 use Rattle.entry.proofs.Typed.{few-take}
 use Rattle.manager.proofs.Views.{meter-view}
+use Rattle.manager.proofs.Done.{tenant-refused}
+use Rattle.manager.proofs.Billing.{billed-did}
 use Rattle.manager.proofs.Walking.{fits, Walking, walking-none}
 use Rattle.manager.specs.declared.State.{State}
-use Rattle.manager.specs.State.{queueOf, view, Sound}
+use Rattle.manager.specs.State.{view, Sound}
 use Rattle.manager.proofs.Slots.{Slotted, slotted}
 use Rattle.manager.proofs.Searching.{Over, over-moved, over-none, over-short, over-found, over-more, over-did}
 use Rattle.manager.proofs.scan.searched.Statement.{statement}
@@ -29,6 +32,7 @@ use Rattle.entry.proofs.few.Reads as few-reads
 use Rattle.entry.proofs.promoted.Reads as promoted-reads
 use Rattle.entry.proofs.size.Reads as size-reads
 use Rattle.maps.proofs.add.Reads as add-reads
+use Rattle.manager.proofs.refusal.billed.Reads as billed-reads
 use Rattle.manager.proofs.scan.clear_by_maps.Reads as clear-by-maps-reads
 use Rattle.manager.proofs.scan.sought.Reads as sought-reads
 use Rattle.entry.proofs.named.Reads as named-reads
@@ -47,20 +51,20 @@ Inv-loop number who n₀ k left₀ burnt₀ answer₀ written₀ read₀ count i
 abbrev μ-loop : tie.MeasureT-loop
 μ-loop number who n₀ k left₀ burnt₀ answer₀ written₀ read₀ count i₀ n left burnt answer written read i = count - i
 
-abbrev tested : tie.At-loop Inv-loop μ-loop → tie.Then1 Inv-loop μ-loop
+abbrev tested : tie.At-loop Inv-loop μ-loop → tie.Else1 Inv-loop μ-loop
 tested a = a .before .before .before .before .before
 
 -- the call is not refused
-none : (c : tie.Then1 Inv-loop μ-loop) → let s = c .before .args in firstOf (scanRows (view (s .s)) (s .who)) ≡ 0
-none c = c .before .pre .1 (c .if1 .taken)
+none : (c : tie.Else1 Inv-loop μ-loop) → let s = c .before .args in firstOf (scanRows (view (s .s)) (s .who)) ≡ 0
+none c = sym (c .before .pre .1) ∙ c .if1 .left
 
-passed : (c : tie.Then1 Inv-loop μ-loop) → let s = c .before .args in (isTenant (s .who) ≡ true) × (0 < meterOf (view (s .s)) (s .who) .fuel)
+passed : (c : tie.Else1 Inv-loop μ-loop) → let s = c .before .args in (isTenant (s .who) ≡ true) × (0 < meterOf (view (s .s)) (s .who) .fuel)
 passed c = scan-passes (view (c .before .args .s)) (c .before .args .who) (none c)
 
-range : (c : tie.Then1 Inv-loop μ-loop) → (1 ≤ c .before .args .who) × (c .before .args .who ≤ 16)
+range : (c : tie.Else1 Inv-loop μ-loop) → (1 ≤ c .before .args .who) × (c .before .args .who ≤ 16)
 range c = tenant-range (c .before .args .who) (passed c .0)
 
-own-fuel : (c : tie.Then1 Inv-loop μ-loop) → let s = c .before .args in getD (s .s .meters) (s .who - 1) noMeter .fuel ≡ meterOf (view (s .s)) (s .who) .fuel
+own-fuel : (c : tie.Else1 Inv-loop μ-loop) → let s = c .before .args in getD (s .s .meters) (s .who - 1) noMeter .fuel ≡ meterOf (view (s .s)) (s .who) .fuel
 own-fuel c = ap (λ (m : LawMeter). m .fuel) (meter-view (c .before .args .s) (c .before .args .who))
 
 -- what has begun the search has at most the fuel that a tenant may have
@@ -127,6 +131,21 @@ ends c =
     let stops : fits (tested a .before .args .who) (a .loop .written) (a .loop .read) e ≡ true = rw (sym (w .6 .ensures) ∙ w .7 .taken, sym (w .10 .ensures) ∙ w .11 .taken) refl in
     rw (w .14, w .15, w .16, w .17) (over-moved (v .2) (over-found t (slots a) (v .1) (inside (record { before = a; loop-test = w .0 })) _ (w .2 .ensures .0) (w .4 .left) _ (w .5 .ensures) stops (w .12 .ensures) (w .13 .ensures)))))
     (c .loop-test .came)
+
+outsider : (s : tie.Start Inv-loop μ-loop) → isTenant (s .args .who) ≡ false → s .args .number ≡ 1
+unfolding scanRows
+outsider s outside = s .pre .1 ∙ stranger (s .args .who) _ outside
+
+billed-requires : tie.Need-billed-requires Inv-loop μ-loop
+billed-requires c κs = search needs
+
+returns : tie.Need-returns Inv-loop μ-loop
+unfolding scanOf
+returns c =
+    let b = c .before .before in
+    let one = b .before .before in
+    let s = one .before in
+    rw (← (s .pre .1)) (tenant-refused _ _ _ _ _ _ (one .if1 .taken) (billed-did (s .pre .0) (s .args .who) (s .args .number) (outsider s) (b .billed .ensures)))
 
 sub-k : tie.Need-sub-k Inv-loop μ-loop
 sub-k c = range c .0
@@ -235,21 +254,15 @@ mul-left c = omega (arith, range (tested (c .before)) .1)
 element-set-from-left : tie.Need-element-set-from-left Inv-loop μ-loop
 element-set-from-left c = omega (arith, range (tested (c .before)) .1)
 
-add-t50 : tie.Need-add-t50 Inv-loop μ-loop
-add-t50 c = let a = c .before .before in omega (arith, ends (c .before) .within, small (a .before .before .before))
+add-t54 : tie.Need-add-t54 Inv-loop μ-loop
+add-t54 c = let a = c .before .before in omega (arith, ends (c .before) .within, small (a .before .before .before))
 
-returns : tie.Need-returns Inv-loop μ-loop
-returns c =
+returns-2 : tie.Need-returns-2 Inv-loop μ-loop
+returns-2 c =
     let out = c .before in
     let one = tested (out .before) in
     let s = one .before in
-    record {
-      done = λ z. over-did (s .pre .0) (s .args .who) (none one) (out .before .before .before .before .charged .ensures) (ends out);
-      kept = λ some. absurd (some (one .if1 .taken));
-    }
-
-returns-2 : tie.Need-returns-2 Inv-loop μ-loop
-returns-2 c = record { done = λ z. absurd (c .if1 .left z); kept = λ some. refl }
+    over-did (s .pre .0) (s .args .who) (none one) (out .before .before .before .before .charged .ensures) (ends out)
 
 pub searched-spec : {M : Type 1} → statement M
 searched-spec =
@@ -257,6 +270,8 @@ searched-spec =
     (tie.spec
     Inv-loop
     μ-loop
+    billed-requires
+    returns
     sub-k
     cast-k
     mul-m
@@ -287,6 +302,5 @@ searched-spec =
     loop-again
     mul-left
     element-set-from-left
-    add-t50
-    returns
+    add-t54
     returns-2)

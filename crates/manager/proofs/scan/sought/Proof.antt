@@ -1,5 +1,4 @@
 -- By whose it is, and then by its state.
-use mathlib.Core.Path.{_∙_}
 use borrow.Author.Tests.{eq-eqb, ne-eqb}
 use borrow.Author.Needs.{needs}
 use Rattle.manager.proofs.scan.sought.Statement.{statement}

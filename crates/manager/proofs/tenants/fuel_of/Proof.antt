@@ -1,7 +1,4 @@
 -- A tenant's fuel is its meter's; who is none has nothing.
-use mathlib.Core.Path.{_≡_, refl, ap, _∙_}
-use mathlib.Core.Bool.{Bool, true, false}
-use Rattle.rules.specs.Table.{Meter as LawMeter}
 use Rattle.manager.proofs.Rows.{own-fuel}
 use borrow.Author.Needs.{needs}
 use Rattle.manager.proofs.tenants.fuel_of.Statement.{statement}
