@@ -1,5 +1,6 @@
--- The demands, of one real call: a sound state was given to it, and its outcome is one that its contract allows. Each field is a
--- sentence of the three demands, said of the code's own states and outcomes; `seen` is the outcome with its state seen as a table.
+-- The demands, of one real call: a sound state was given to it, and it gave back one that its contract allows. Each field is a
+-- sentence of the three demands, said of the code's own states; `seen` is the law book's outcome that a state shows: its table, its
+-- answer and the units burnt.
 use Prim.Native.Nat.{ℕ, _+_, _≤_, _<_}
 use mathlib.Core.Path.{_≡_}
 use mathlib.Core.Bool.{true, false}
@@ -29,7 +30,7 @@ pub record Made (s : CodeStep) : Type 0 where
   pub sound : Sound (s .met)
   pub did : DidCall (s .met) (s .call) (s .gave)
 
--- the table that the call met, and what the law book sees of its outcome
+-- the table that the call met, and what the law book sees of the state that it gave back
 abbrev pub tableOf : CodeStep → Table
 tableOf s = view (s .met)
 

@@ -9,7 +9,7 @@ use Rattle.rules.specs.declared.Answer.{Answer}
 use Rattle.rules.specs.declared.Answer.the-variants.{Nothing, Refused}
 use Rattle.rules.specs.Request.{nobody, size, promoted}
 use Rattle.rules.specs.Table.{Meter as LawMeter, Table, meterOf, withMeter, spent, burn}
-use Rattle.rules.specs.Prices.{clause9, looks, searching}
+use Rattle.rules.specs.Prices.{clause9, pricesOf, looks, searching}
 use Rattle.rules.specs.Refusals.{firstOf, scanRows}
 use Rattle.rules.specs.Scan.{End, found, nothing, short, scanWalk}
 use Rattle.rules.specs.Calls.{named, found-table, found-answer, search, scanOf}
@@ -25,12 +25,11 @@ use Rattle.queue.proofs.Views.{requests-length, request-at}
 use Rattle.manager.specs.declared.Said.{Said}
 use Rattle.manager.specs.declared.State.{State}
 use Rattle.manager.specs.State.{view, Tied, Sound, Becomes, Did}
-use Rattle.manager.specs.Search.{Looked, Ended}
 use Rattle.manager.proofs.Views.{meter-view, meter-becomes}
 use Rattle.manager.proofs.Done.{tenant-done}
 use Rattle.manager.proofs.Slots.{Slotted, withEntries}
 use Rattle.manager.proofs.Entries.{promoted-lists, makes-becomes, makes-named}
-use Rattle.manager.proofs.Walking.{fits, Walking, walking-end, walking-short, walking-found, walking-more}
+use Rattle.manager.proofs.Walking.{Looked, fits, Walking, walking-end, walking-short, walking-found, walking-more}
 
 -- ---- the walk
 -- the walk is over: where it ended, and what it left
@@ -82,6 +81,12 @@ module _ {s : State} (t : Tied s) (k : Slotted s) {who i burnt : ℕ} {begun lef
       over-more no-fit g h = walking-more w _ there is n sized rich after pays no-fit g h
 
 -- ---- the whole search
+-- the same with the search's own unit: it ends as the law book's search of the tenant does, and the tenant's meter has paid
+pub record Ended (t : Table) (who : ℕ) (end : End) (left : Meter) (burnt : ℕ) : Type 0 where
+  pub ends : end ≡ search (pricesOf t) t who .end
+  pub burns : burnt ≡ searching (pricesOf t) (search (pricesOf t) t who .looked)
+  pub paid : meterView left ≡ spent (meterOf t who) (searching (pricesOf t) (search (pricesOf t) t who .looked))
+
 -- a promotion moves no meter
 found-meters : (t : Table) (end : End) (who : ℕ) → meterOf (found-table t end) who ≡ meterOf t who
 found-meters t (found at) who = refl

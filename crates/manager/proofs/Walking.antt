@@ -14,7 +14,7 @@ use Rattle.rules.specs.Records.{member}
 use Rattle.rules.specs.Request.{Request, nobody, size, conflictsAny, isBlocked}
 use Rattle.rules.specs.Table.{Meter as LawMeter, spent}
 use Rattle.rules.specs.Prices.{clause9, looks}
-use Rattle.rules.specs.Scan.{found, nothing, short, scanWalk, qualifies, Maps, noRecords, mapped, mapsOver, clearBy}
+use Rattle.rules.specs.Scan.{Walk, End, found, nothing, short, scanWalk, qualifies, Maps, noRecords, mapped, mapsOver, clearBy}
 use Rattle.rules.proofs.Lists.{some-cong}
 use Rattle.rules.proofs.Prices.{looks-last}
 use Rattle.rules.proofs.Steps.{list-step}
@@ -22,7 +22,7 @@ use Rattle.rules.proofs.Verdicts.{maps-conflicts}
 use Rattle.maps.specs.Maps.{Empty, Grown}
 use Rattle.meter.specs.declared.Meter.{Meter}
 use Rattle.meter.specs.View.{meterView}
-use Rattle.manager.specs.Search.{mapsOf, Looked}
+use Rattle.manager.specs.Search.{mapsOf}
 
 -- ---- the maps
 -- two pairs of maps that hold the same records
@@ -49,6 +49,12 @@ maps-more q e s g h =
     (record { written = λ k. g .each k ∙ ap (λ (b : Bool). b || member k (e .writes)) (s .written k); read = λ k. h .each k ∙ ap (λ (b : Bool). b || member k (e .reads)) (s .read k) })
 
 -- ---- the walk
+-- it ends as the law book's walk does, has burnt what its looks cost, and the meter m, of which `left` is left, has paid that
+pub record Looked (w : Walk) (m : Meter) (end : End) (left : Meter) (burnt : ℕ) : Type 0 where
+  pub ends : end ≡ w .end
+  pub burns : burnt ≡ looks clause9 (w .looked)
+  pub paid : meterView left ≡ spent (meterView m) (looks clause9 (w .looked))
+
 -- an entry that the walk stops at, as the code tests it: the caller's, Blocked, and clear by the maps
 abbrev pub fits : ℕ → List ℕ → List ℕ → Request → Bool
 fits who written read e = (eqb (e .tenant) who && isBlocked (e .mode)) && clearBy (mapsOf written read) e

@@ -22,13 +22,17 @@ refusedWith t who number = record {
   burnt = charge (pricesOf t) (meterOf t who .fuel) number;
 }
 
+-- the meter of a tenant among all
+abbrev pub meterIn : List Meter → ℕ → Meter
+meterIn all who = getD all (who - 1) noMeter
+
 -- a tenant has paid what its refusal burns, and who is none has nothing to pay; and what the call then says
 pub record Billed (all : List Meter) (who number : ℕ) (r : Bill) : Type 0 where
   pub meters :
       map meterView (r .meters) ≡
-      (if isTenant who then set (map meterView all) (who - 1) (spent (meterView (getD all (who - 1) noMeter)) (r .said .burnt)) else map meterView all)
+      (if isTenant who then set (map meterView all) (who - 1) (spent (meterView (meterIn all who)) (r .said .burnt)) else map meterView all)
   pub answer : r .said .answer ≡ Refused number
-  pub burnt : r .said .burnt ≡ (if isTenant who then charge clause9 (getD all (who - 1) noMeter .fuel) number else 0)
+  pub burnt : r .said .burnt ≡ (if isTenant who then charge clause9 (meterIn all who .fuel) number else 0)
 
 -- the entry at a place has left, which burns nothing, and the call says done
 pub record Gone (s : State) (at : ℕ) (r : State) : Type 0 where

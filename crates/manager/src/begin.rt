@@ -13,6 +13,7 @@ ghost use Rattle.entry.specs.Entry.{request, Tidy, Stands};
 ghost use Rattle.counters.specs.Counters.{at};
 ghost use Rattle.manager.specs.State.{view, Sound, Did};
 ghost use Rattle.manager.specs.Rows.{formRows, meansRows, beginBy};
+use super::meters;
 use super::refusal;
 use super::tenants;
 use crate::Said;
@@ -107,7 +108,7 @@ pub fn begin(s: State, who: u8, awaited: u8, reads: &[u8], writes: &[u8]) -> Sta
 {
     let mut n = s;
     let all = n.meters;
-    let m = tenants::meter_of(all, who);
+    let m = meters::meter_of(all, who);
     let share = m.share as usize;
     let count = n.count;
     // the places that the tenant holds, counted no further than its share
@@ -126,9 +127,9 @@ pub fn begin(s: State, who: u8, awaited: u8, reads: &[u8], writes: &[u8]) -> Sta
     let number = refusal(tenant, m, held, awaited, reads, writes);
     if number != 0 {
         let bill = refusal::billed(all, who, number);
-        let meters = bill.meters;
+        let next = bill.meters;
         let said = bill.said;
-        n.meters = meters;
+        n.meters = next;
         n.said = said;
         return n;
     }

@@ -5,6 +5,7 @@ ghost use Rattle.rules.specs.Refusals.{firstOf};
 ghost use Rattle.rules.specs.Calls.{finishOf};
 ghost use Rattle.manager.specs.State.{view, Sound, Did};
 ghost use Rattle.manager.specs.Rows.{finishBy};
+use super::meters;
 use super::places;
 use super::refusal;
 use super::tenants;
@@ -44,7 +45,7 @@ pub fn finish(s: State, who: u8, serial: u16) -> State
     }
     let tenant = tenants::is_tenant(who);
     let all = n.meters;
-    let m = tenants::meter_of(all, who);
+    let m = meters::meter_of(all, who);
     let mut free = false;
     if at < count {
         let e = n.entries[at];
@@ -54,9 +55,9 @@ pub fn finish(s: State, who: u8, serial: u16) -> State
     let number = refusal(tenant, m.fuel, count <= at, free);
     if number != 0 {
         let bill = refusal::billed(all, who, number);
-        let meters = bill.meters;
+        let next = bill.meters;
         let said = bill.said;
-        n.meters = meters;
+        n.meters = next;
         n.said = said;
         return n;
     }

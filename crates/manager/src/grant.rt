@@ -6,6 +6,7 @@ ghost use Rattle.rules.specs.Refusals.{firstOf};
 ghost use Rattle.rules.specs.Calls.{grantOf};
 ghost use Rattle.manager.specs.State.{view, Sound, Did};
 ghost use Rattle.manager.specs.Rows.{grantBy};
+use super::meters;
 use super::tenants;
 use crate::Said;
 use crate::State;
@@ -33,7 +34,7 @@ pub fn grant(s: State, who: u8, amount: u32) -> State
     let mut n = s;
     let tenant = tenants::is_tenant(who);
     let all = n.meters;
-    let m = tenants::meter_of(all, who);
+    let m = meters::meter_of(all, who);
     let number = refusal(tenant, m.fuel, amount);
     let mut answer = Answer::Refused(number);
     if number == 0 {

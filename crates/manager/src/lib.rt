@@ -8,6 +8,7 @@ pub mod begin;
 pub mod deliver;
 pub mod finish;
 pub mod grant;
+mod meters;
 pub mod open;
 pub mod pick;
 mod places;

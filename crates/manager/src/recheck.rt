@@ -5,6 +5,7 @@ ghost use Rattle.rules.specs.Refusals.{firstOf};
 ghost use Rattle.rules.specs.Calls.{recheckOf};
 ghost use Rattle.manager.specs.State.{view, Sound, Did};
 ghost use Rattle.manager.specs.Rows.{recheckBy};
+use super::meters;
 use super::refusal;
 use super::tenants;
 use crate::Said;
@@ -48,7 +49,7 @@ pub fn recheck(s: State, who: u8, serial: u16) -> State
     }
     let tenant = tenants::is_tenant(who);
     let all = n.meters;
-    let m = tenants::meter_of(all, who);
+    let m = meters::meter_of(all, who);
     let mut e = entry::empty();
     if at < count {
         let found = n.entries[at];
@@ -60,9 +61,9 @@ pub fn recheck(s: State, who: u8, serial: u16) -> State
     let number = refusal(tenant, m.fuel, count <= at, blocked, price);
     if number != 0 {
         let bill = refusal::billed(all, who, number);
-        let meters = bill.meters;
+        let next = bill.meters;
         let said = bill.said;
-        n.meters = meters;
+        n.meters = next;
         n.said = said;
         return n;
     }

@@ -13,6 +13,7 @@ ghost use Rattle.entry.specs.Entry.{request};
 ghost use Rattle.manager.specs.State.{view, Sound, Did};
 ghost use Rattle.manager.specs.Rows.{scanBy};
 ghost use Rattle.manager.specs.Search.{mapsOf};
+use super::meters;
 use super::refusal;
 use super::tenants;
 use crate::Said;
@@ -86,9 +87,9 @@ fn searched(s: State, number: u8, who: u8) -> State
     if number != 0 {
         let all = n.meters;
         let bill = refusal::billed(all, who, number);
-        let meters = bill.meters;
+        let next = bill.meters;
         let said = bill.said;
-        n.meters = meters;
+        n.meters = next;
         n.said = said;
         return n;
     }
@@ -142,7 +143,7 @@ pub fn scan(s: State, who: u8) -> State
 {
     let tenant = tenants::is_tenant(who);
     let all = s.meters;
-    let m = tenants::meter_of(all, who);
+    let m = meters::meter_of(all, who);
     let number = refusal(tenant, m.fuel);
     searched(s, number, who)
 }

@@ -42,7 +42,7 @@ use Rattle.manager.proofs.begin.price.Reads as price-reads
 use Rattle.manager.proofs.begin.refusal.Reads as refusal-reads
 use Rattle.manager.proofs.refusal.billed.Reads as billed-reads
 use Rattle.manager.proofs.tenants.is_tenant.Reads as is-tenant-reads
-use Rattle.manager.proofs.tenants.meter_of.Reads as meter-of-reads
+use Rattle.manager.proofs.meters.meter_of.Reads as meter-of-reads
 use Rattle.meter.proofs.charged.Reads as charged-reads
 use Rattle.meter.proofs.numbered.Reads as numbered-reads
 

@@ -31,7 +31,7 @@ use Rattle.manager.proofs.finish.refusal.Reads as refusal-reads
 use Rattle.manager.proofs.places.released.Reads as released-reads
 use Rattle.manager.proofs.refusal.billed.Reads as billed-reads
 use Rattle.manager.proofs.tenants.is_tenant.Reads as is-tenant-reads
-use Rattle.manager.proofs.tenants.meter_of.Reads as meter-of-reads
+use Rattle.manager.proofs.meters.meter_of.Reads as meter-of-reads
 
 abbrev Inv-loop : tie.InvT-loop
 Inv-loop who serial s count at₀ at =

@@ -24,7 +24,7 @@ use Rattle.manager.proofs.grant.grant.Reads as reads
 use Rattle.manager.proofs.grant.grant.Lts as lts
 use Rattle.manager.proofs.grant.refusal.Reads as refusal-reads
 use Rattle.manager.proofs.tenants.is_tenant.Reads as is-tenant-reads
-use Rattle.manager.proofs.tenants.meter_of.Reads as meter-of-reads
+use Rattle.manager.proofs.meters.meter_of.Reads as meter-of-reads
 use Rattle.meter.proofs.granted.Reads as granted-reads
 
 abbrev begun : tie.After-meter-of → tie.Start

@@ -38,7 +38,7 @@ use Rattle.entry.proofs.size.Reads as size-reads
 use Rattle.manager.proofs.recheck.refusal.Reads as refusal-reads
 use Rattle.manager.proofs.refusal.billed.Reads as billed-reads
 use Rattle.manager.proofs.tenants.is_tenant.Reads as is-tenant-reads
-use Rattle.manager.proofs.tenants.meter_of.Reads as meter-of-reads
+use Rattle.manager.proofs.meters.meter_of.Reads as meter-of-reads
 use Rattle.meter.proofs.charged.Reads as charged-reads
 
 abbrev Inv-loop : tie.InvT-loop

@@ -12,7 +12,7 @@ use Rattle.manager.proofs.scan.scan.Lts as lts
 use Rattle.manager.proofs.scan.refusal.Reads as refusal-reads
 use Rattle.manager.proofs.scan.searched.Reads as searched-reads
 use Rattle.manager.proofs.tenants.is_tenant.Reads as is-tenant-reads
-use Rattle.manager.proofs.tenants.meter_of.Reads as meter-of-reads
+use Rattle.manager.proofs.meters.meter_of.Reads as meter-of-reads
 
 abbrev begun : tie.After-refusal → tie.Start
 begun c = c .before .before .before .before

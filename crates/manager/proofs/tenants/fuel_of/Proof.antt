@@ -5,7 +5,7 @@ use Rattle.manager.proofs.tenants.fuel_of.Statement.{statement}
 use Rattle.manager.proofs.tenants.fuel_of.Tie as tie
 use Rattle.manager.proofs.tenants.fuel_of.Reads as reads
 use Rattle.manager.proofs.tenants.fuel_of.Lts as lts
-use Rattle.manager.proofs.tenants.meter_of.Reads as meter-of-reads
+use Rattle.manager.proofs.meters.meter_of.Reads as meter-of-reads
 
 meter-of-requires : tie.Need-meter-of-requires
 meter-of-requires c κs = search needs

@@ -5,10 +5,10 @@ use mathlib.Core.Bool.{true}
 use Rattle.rules.specs.Table.{isTenant}
 use Rattle.rules.proofs.Meters.{tenant-range}
 use borrow.Author.Needs.{needs}
-use Rattle.manager.proofs.tenants.meter_of.Statement.{statement}
-use Rattle.manager.proofs.tenants.meter_of.Tie as tie
-use Rattle.manager.proofs.tenants.meter_of.Reads as reads
-use Rattle.manager.proofs.tenants.meter_of.Lts as lts
+use Rattle.manager.proofs.meters.meter_of.Statement.{statement}
+use Rattle.manager.proofs.meters.meter_of.Tie as tie
+use Rattle.manager.proofs.meters.meter_of.Reads as reads
+use Rattle.manager.proofs.meters.meter_of.Lts as lts
 use Rattle.manager.proofs.tenants.is_tenant.Reads as is-tenant-reads
 use Rattle.meter.proofs.fresh.Reads as fresh-reads
 
