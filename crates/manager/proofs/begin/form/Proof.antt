@@ -20,16 +20,29 @@ use Rattle.entry.proofs.too_many.Reads as too-many-reads
 too-many-requires : tie.Need-too-many-requires
 too-many-requires c κs = search needs
 
-few-reads : (c : tie.Else1) → ltb 8 (length (c .before .before .before .before .args .reads .now)) ≡ false
+-- from each test that was passed back to the start
+abbrev start1 : tie.Else1 → tie.Start
+start1 c = c .before .before .before .before
+
+abbrev start2 : tie.Else2 → tie.Start
+start2 c = start1 (c .before .before)
+
+abbrev start3 : tie.Else3 → tie.Start
+start3 c = start2 (c .before .before)
+
+abbrev start4 : tie.Else4 → tie.Start
+start4 c = start3 (c .before .before)
+
+few-reads : (c : tie.Else1) → ltb 8 (length (start1 c .args .reads .now)) ≡ false
 few-reads c = sym (c .before .too-many .ensures) ∙ c .if1 .left
 
-short : (c : tie.Else2) → let s = c .before .before .before .before .before .before .args in (ltb 8 (length (s .reads .now)) || ltb 8 (length (s .writes .now))) ≡ false
+short : (c : tie.Else2) → let s = start2 c .args in (ltb 8 (length (s .reads .now)) || ltb 8 (length (s .writes .now))) ≡ false
 short c = simp (few-reads (c .before .before), sym (c .before .too-many2 .ensures) ∙ c .if2 .left)
 
-reads-rise : (c : tie.Else3) → rising (c .before .before .before .before .before .before .before .before .args .reads .now) ≡ true
+reads-rise : (c : tie.Else3) → rising (start3 c .args .reads .now) ≡ true
 reads-rise c = sym (c .before .rises .ensures) ∙ not-false (c .before .rises .result) (c .if3 .left)
 
-rise : (c : tie.Else4) → let s = c .before .before .before .before .before .before .before .before .before .before .args in (rising (s .reads .now) && rising (s .writes .now)) ≡ true
+rise : (c : tie.Else4) → let s = start4 c .args in (rising (s .reads .now) && rising (s .writes .now)) ≡ true
 rise c = simp (reads-rise (c .before .before), sym (c .before .rises2 .ensures) ∙ not-false (c .before .rises2 .result) (c .if4 .left))
 
 returns : tie.Need-returns

@@ -14,8 +14,11 @@ use Rattle.manager.proofs.begin.form.Reads as form-reads
 use Rattle.manager.proofs.begin.means.Reads as means-reads
 use Rattle.manager.proofs.begin.price.Reads as price-reads
 
-one : (c : tie.Else2) → c .before .before .before .before .before .args .tenant ≡ true
-one c = not-false (c .before .before .before .before .before .args .tenant) (c .before .before .if1 .left)
+abbrev start : tie.Else2 → tie.Start
+start c = c .before .before .before .before .before
+
+one : (c : tie.Else2) → start c .args .tenant ≡ true
+one c = not-false (start c .args .tenant) (c .before .before .if1 .left)
 
 returns : tie.Need-returns
 unfolding beginBy firstOf

@@ -47,9 +47,12 @@ write-list c =
     let one = c .before .before .before in
     writes-are (own (slots one) (there one)) (own-lists (slots one) (there one)) (c .few2 .result) (c .few2 .ensures)
 
--- from the loop back to the start
+-- from the lowered counters back to the lists' lengths, and to the start
+abbrev lowered-by : tie.After-lower Inv-loop μ-loop → tie.After-few2 Inv-loop μ-loop
+lowered-by c = c .before .before .before .before
+
 abbrev begun : tie.After-lower2 Inv-loop μ-loop → tie.Start Inv-loop μ-loop
-begun c = c .before .before .before .before .before .before .before .before .before
+begun c = lowered-by (c .before .before) .before .before .before
 
 mul-e : tie.Need-mul-e Inv-loop μ-loop
 mul-e c = omega (arith, below (slots c) (there c))
@@ -71,7 +74,7 @@ lower-requires c κs =
 
 lower-requires-2 : tie.Need-lower-requires-2 Inv-loop μ-loop
 lower-requires-2 c κs =
-    let few = c .before .before .before .before .before .before in
+    let few = lowered-by (c .before) .before in
     let one = few .before .before in
     (omega (arith, few .few .ensures), rw (read-list few) (reads-stocked (one .pre .0) (one .args .at) (there one) (formed one)))
 
@@ -125,8 +128,8 @@ returns c =
     let s = begun low in
     let end : a .loop .j ≡ s .args .s .count - 1 = omega arith in
     let more : s .args .s .count - 1 + 1 ≡ s .args .s .count = omega (arith, used (slots s) (there s)) in
-    let x = rw (write-list (low .before .before .before .before .before .before)) at (low .before .before .lower .ensures) in
-    let y = rw (read-list (low .before .before .before .before .before .before .before)) at (low .lower2 .ensures) in
+    let x = rw (write-list (lowered-by (low .before .before))) at (low .before .before .lower .ensures) in
+    let y = rw (read-list (lowered-by (low .before .before) .before)) at (low .lower2 .ensures) in
     let q = removed-holds (slots s .slots) (rw end at (a .loop .inv .2)) (omega arith) more in
     record {
       state = rw (a .loop .inv .3 .same, c .empty .ensures) (leaves-becomes (s .pre .0) (s .args .at) (there s) (formed s) x y q);

@@ -88,9 +88,17 @@ counted a = ap (λ (m : State). m .count) (a .loop .inv .2)
 inside : (c : tie.In-loop Inv-loop μ-loop) → c .before .loop .i < c .before .loop .n .count
 inside c = omega (arith, counted (c .before), c .loop-test .taken)
 
--- from the verdict on the entry back to the turn's test, and the records that the maps grow by
+-- from the paid look back to the turn's test
+abbrev looked : tie.After-charged2 Inv-loop μ-loop → tie.In-loop Inv-loop μ-loop
+looked c = c .before .before .before .before .before
+
+-- from the grown map back to the lists' lengths
+abbrev grown-by : tie.After-add Inv-loop μ-loop → tie.After-few2 Inv-loop μ-loop
+grown-by c = c .before .before .before .before
+
+-- from whether the entry is sought back to the turn's test
 abbrev turn : tie.After-sought Inv-loop μ-loop → tie.In-loop Inv-loop μ-loop
-turn c = c .before .before .before .before .before .before
+turn c = looked (c .before)
 
 -- from the maps' verdict back to whether the entry is sought
 abbrev asked : tie.After-clear-by-maps Inv-loop μ-loop → tie.After-sought Inv-loop μ-loop
@@ -190,7 +198,7 @@ charged-requires-2 : tie.Need-charged-requires-2 Inv-loop μ-loop
 charged-requires-2 c κs = c .if2 .left
 
 add-burnt : tie.Need-add-burnt Inv-loop μ-loop
-add-burnt c = let a = c .before .before .before .before .before .before in omega (arith, a .loop .inv .1 .whole, c .before .if2 .left, small (a .before .before .before))
+add-burnt c = let a = looked c .before in omega (arith, a .loop .inv .1 .whole, c .before .if2 .left, small (a .before .before .before))
 
 sought-requires : tie.Need-sought-requires Inv-loop μ-loop
 sought-requires c κs = search needs
@@ -223,19 +231,19 @@ add-requires c κs =
 
 add-requires-2 : tie.Need-add-requires-2 Inv-loop μ-loop
 add-requires-2 c κs =
-    let one = c .before .before .before .before .before .before in
+    let one = grown-by (c .before) .before in
     (omega (arith, one .few .ensures), turn (one .before .before) .before .loop .inv .5)
 
 add-i : tie.Need-add-i Inv-loop μ-loop
-add-i c = let one = c .before .before .before .before .before .before .before in omega (arith, below (turn (one .before .before)))
+add-i c = let one = grown-by (c .before .before) .before in omega (arith, below (turn (one .before .before)))
 
 loop-less : tie.Need-loop-less Inv-loop μ-loop
-loop-less c = let one = c .before .before .before .before .before .before .before in omega (arith, turn (one .before .before) .loop-test .taken)
+loop-less c = let one = grown-by (c .before .before) .before in omega (arith, turn (one .before .before) .loop-test .taken)
 
 loop-again : tie.Need-loop-again Inv-loop μ-loop
 loop-again c =
     let second = c .before .before in
-    let two = second .before .before .before .before in
+    let two = grown-by second in
     let one = two .before in
     let passed = one .before in
     let told = passed .before in
