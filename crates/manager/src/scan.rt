@@ -76,8 +76,8 @@ fn sought(who: u8, tenant: u8, mode: Mode) -> bool
     entry::is_blocked(mode)
 }
 
-// The search from the front, where the call is not refused. Each entry is paid for before it is looked at, and the two maps
-// grow by it.
+// The search from the front. Each entry is paid for before it is looked at, and the two maps grow by it. A refused call pays
+// here as well: in front of this step that would cost one more copy of the state.
 fn searched(s: State, number: u8, who: u8) -> State
     requires { ⌜ Sound s ⌝ }
     requires { ⌜ number ≡ firstOf (scanRows (view s) who) ⌝ }

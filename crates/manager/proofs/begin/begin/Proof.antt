@@ -257,7 +257,9 @@ raise-requires-2 c κs =
     (omega (arith, few .few .ensures), (under (s .pre) (slots s) _ _ _ _ (none one) (λ a. a .reads) (s .pre .tied .readers), state-sized (s .args .s) _ (s .good .0) .readers))
 
 admitted-requires : tie.Need-admitted-requires Inv-loop μ-loop
-admitted-requires c κs = made-of (raised-by (c .before .before .before .before .before)) .made .ensures .tidy
+admitted-requires c κs =
+    let up = c .before .before .before in
+    made-of (raised-by (up .before .before)) .made .ensures .tidy
 
 mul-joins : tie.Need-mul-joins Inv-loop μ-loop
 mul-joins c = omega (arith, place (unrefused (made-of (raised-by (both-raised c .before .before)))))
