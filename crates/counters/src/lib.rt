@@ -5,6 +5,7 @@ ghost use Prim.Native.Nat.{_≤_, _<_};
 ghost use lib.Dec.{eqb, ltb};
 ghost use lib.ListN.{length, take};
 ghost use Rattle.rules.specs.Lists.{some, every};
+ghost use Rattle.rules.specs.Request.{requested};
 ghost use Rattle.rules.specs.Counters.{figure2, alone as aloneBy};
 ghost use Rattle.entry.specs.Entry.{request};
 ghost use Rattle.counters.specs.Counters.{at, Raised, Under, Stocked};
@@ -17,19 +18,31 @@ fn wide(x: u8) -> usize
     x as usize
 }
 
-// Adds one at each of the first n records of a list. What is lent does not tell its length, so the contract asks for it.
-pub fn raise(counters: &mut [u8; 256], list: [u8; 8], n: usize)
-    requires { ⌜ n ≤ 8 ⌝ }
+// Adds one at each record of a lent list. What is lent does not tell its length, so the contract asks for it.
+pub fn raise_each(counters: &mut [u8; 256], list: &[u8])
+    requires { ⌜ length (now list) ≤ 8 ⌝ }
     requires { ⌜ Under 65 (now counters) ⌝ }
     requires { ⌜ length (now counters) ≡ 256 ⌝ }
-    ensures { λ _. ⌜ Raised (now (counters .entry)) (take n list) (now (counters .exit)) ⌝ }
+    ensures { λ _. ⌜ Raised (now (counters .entry)) (now (list .entry)) (now (counters .exit)) ⌝ }
+    ensures { λ _. ⌜ length (now (counters .exit)) ≡ 256 ⌝ }
 {
+    let n = list.len();
     let mut i: usize = 0;
     while i < n {
         let k = wide(list[i]);
         counters[k] += 1;
         i += 1;
     }
+}
+
+// Adds one at each of the first n records of a list.
+pub fn raise(counters: &mut [u8; 256], list: [u8; 8], n: usize)
+    requires { ⌜ n ≤ 8 ⌝ }
+    requires { ⌜ Under 65 (now counters) ⌝ }
+    requires { ⌜ length (now counters) ≡ 256 ⌝ }
+    ensures { λ _. ⌜ Raised (now (counters .entry)) (take n list) (now (counters .exit)) ⌝ }
+{
+    raise_each(counters, &list[..n]);
 }
 
 // Takes one at each of the first n records of a list, at each of which there is one to take.
@@ -46,11 +59,11 @@ pub fn lower(counters: &mut [u8; 256], list: [u8; 8], n: usize)
     }
 }
 
-// Whether one of the first n records of a list has a counter above a number.
-fn some_above(counters: &[u8; 256], list: [u8; 8], n: usize, floor: u8) -> bool
-    requires { ⌜ n ≤ 8 ⌝ }
-    ensures { λ r. ⌜ r ≡ some (λ k. ltb floor (at (now (counters .entry)) k)) (take n list) ⌝ }
+// Whether one of the records of a lent list has a counter above a number.
+fn some_above<'a>(counters: &'a [u8; 256], list: &'a [u8], floor: u8) -> bool
+    ensures { λ r. ⌜ r ≡ some (λ k. ltb floor (at (now (counters .entry)) k)) (now (list .entry)) ⌝ }
 {
+    let n = list.len();
     let mut i: usize = 0;
     while i < n {
         let k = wide(list[i]);
@@ -78,8 +91,21 @@ fn all_equal(counters: &[u8; 256], list: [u8; 8], n: usize, value: u8) -> bool
     true
 }
 
-// Figure 2's verdict on an entry whose own counts are in: a read clashes if Cx is above 0, a write if Cx is above 1 or Cs
-// above 0.
+// Figure 2's verdict on a request's lists, its own counts being in: a read clashes if Cx is above 0, a write if Cx is above 1
+// or Cs above 0.
+pub fn clash<'a>(cx: &'a [u8; 256], cs: &'a [u8; 256], reads: &'a [u8], writes: &'a [u8]) -> bool
+    ensures { λ r. ⌜ r ≡ figure2 (at (now (cx .entry))) (at (now (cs .entry))) (requested 0 0 0 (now (reads .entry)) (now (writes .entry))) ⌝ }
+{
+    if some_above(cx, reads, 0) {
+        return true;
+    }
+    if some_above(cx, writes, 1) {
+        return true;
+    }
+    some_above(cs, writes, 0)
+}
+
+// The same verdict on an entry.
 pub fn clashes<'a>(cx: &'a [u8; 256], cs: &'a [u8; 256], e: Entry) -> bool
     ensures { λ r. ⌜ r ≡ figure2 (at (now (cx .entry))) (at (now (cs .entry))) (request e) ⌝ }
 {
@@ -87,13 +113,7 @@ pub fn clashes<'a>(cx: &'a [u8; 256], cs: &'a [u8; 256], e: Entry) -> bool
     let nw = entry::few(e.nw);
     let reads = e.reads;
     let writes = e.writes;
-    if some_above(cx, reads, nr, 0) {
-        return true;
-    }
-    if some_above(cx, writes, nw, 1) {
-        return true;
-    }
-    some_above(cs, writes, nw, 0)
+    clash(cx, cs, &reads[..nr], &writes[..nw])
 }
 
 // Recheck's condition: every written record has Cx = 1 and Cs = 0, and every read record has Cx = 0.

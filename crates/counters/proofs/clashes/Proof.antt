@@ -1,38 +1,21 @@
--- Figure 2 by three comparisons, each of one list with one array of counters.
+-- The entry's lists are lent.
+use Prim.Native.Nat.{_≤_}
+use mathlib.Core.Path.{sym, _∙_}
+use native.Mathlib.Omega.{arith}
+use lib.ListN.{length}
+use lib.Seq.{length-take-le}
+use Rattle.rules.specs.Counters.{figure2}
+use Rattle.entry.proofs.Typed.{Lists, entry-lists, few-take}
 use borrow.Author.Needs.{needs}
-use mathlib.Core.Path.{_≡_, sym, ap, _∙_}
-use lib.Dec.{ltb}
-use lib.ListN.{take}
-use Rattle.rules.specs.Lists.{some}
-use Rattle.rules.proofs.Verdicts.{figure2-split}
-use Rattle.entry.specs.Entry.{request}
-use Rattle.entry.proofs.Typed.{entry-lists, few-take}
-use Rattle.counters.specs.Counters.{at}
 use Rattle.counters.proofs.clashes.Statement.{statement}
 use Rattle.counters.proofs.clashes.Tie as tie
 use Rattle.counters.proofs.clashes.Reads as reads
 use Rattle.counters.proofs.clashes.Lts as lts
-use Rattle.counters.proofs.some_above.Reads as some-above-reads
+use Rattle.counters.proofs.clash.Reads as clash-reads
 use Rattle.entry.proofs.few.Reads as few-reads
 
--- the lists that are compared are the request's
-abbrev start : tie.After-writes → tie.Start
-start c = c .before .before .before .before
-
-lists : (c : tie.After-writes) → let e = start c .args .e in (take (c .before .before .before .few .result) (e .reads) ≡ request e .reads) × (take (c .before .before .few2 .result) (e .writes) ≡ request e .writes)
-lists c =
-    let s = start c in
-    let l = entry-lists (s .args .e) _ (s .good .1 .1 .0) in
-    (few-take (s .args .e .nr) _ (l .reads) (c .before .before .before .few .ensures), few-take (s .args .e .nw) _ (l .writes) (c .before .before .few2 .ensures))
-
-reads-cx : (c : tie.After-some-above) → let s = start (c .before) .args in c .some-above .result ≡ some (λ k. ltb 0 (at (s .cx .now) k)) (request (s .e) .reads)
-reads-cx c = c .some-above .ensures ∙ ap (some _) (lists (c .before) .0)
-
-writes-cx : (c : tie.After-some-above2) → let s = start (c .before .before .before) .args in c .some-above2 .result ≡ some (λ k. ltb 1 (at (s .cx .now) k)) (request (s .e) .writes)
-writes-cx c = c .some-above2 .ensures ∙ ap (some _) (lists (c .before .before .before) .1)
-
-writes-cs : (c : tie.After-some-above3) → let s = start (c .before .before .before .before .before) .args in c .some-above3 .result ≡ some (λ k. ltb 0 (at (s .cs .now) k)) (request (s .e) .writes)
-writes-cs c = c .some-above3 .ensures ∙ ap (some _) (lists (c .before .before .before .before .before) .1)
+lists : (c : tie.Start) → Lists (c .args .e)
+lists c = entry-lists (c .args .e) _ (c .good .1 .1 .0)
 
 few-requires : tie.Need-few-requires
 few-requires c κs = search needs
@@ -40,28 +23,36 @@ few-requires c κs = search needs
 few-requires-2 : tie.Need-few-requires-2
 few-requires-2 c κs = search needs
 
-some-above-requires : tie.Need-some-above-requires
-some-above-requires c κs = search needs
+array-share-prefix-reads : tie.Need-array-share-prefix-reads
+array-share-prefix-reads c = let f = c .before .before .before in omega (arith, f .few .ensures, lists (f .before) .reads .size)
+
+slice-aggregate-clash : tie.Need-slice-aggregate-clash
+slice-aggregate-clash c =
+    let f = c .before .before .before .before in
+    let room : f .few .result ≤ length (f .before .args .e .reads) = omega (arith, f .few .ensures, lists (f .before) .reads .size) in
+    sym (length-take-le (f .few .result) (f .before .args .e .reads) room)
+
+array-share-prefix-writes : tie.Need-array-share-prefix-writes
+array-share-prefix-writes c = let f = c .before .before .before in omega (arith, f .few2 .ensures, lists (f .before .before) .writes .size)
+
+slice-aggregate-clash-2 : tie.Need-slice-aggregate-clash-2
+slice-aggregate-clash-2 c =
+    let f = c .before .before .before .before in
+    let s = f .before .before in
+    let room : f .few2 .result ≤ length (s .args .e .writes) = omega (arith, f .few2 .ensures, lists s .writes .size) in
+    sym (length-take-le (f .few2 .result) (s .args .e .writes) room)
+
+clash-requires : tie.Need-clash-requires
+clash-requires c κs = search needs
 
 returns : tie.Need-returns
-returns c = sym (figure2-split _ _ _ ∙ simp (sym (reads-cx (c .before)) ∙ c .if1 .taken))
-
-some-above-requires-2 : tie.Need-some-above-requires-2
-some-above-requires-2 c κs = search needs
-
-returns-2 : tie.Need-returns-2
-returns-2 c =
-    let one = c .before .before in
-    sym (figure2-split _ _ _ ∙ simp (sym (reads-cx (one .before)) ∙ one .if1 .left, sym (writes-cx (c .before)) ∙ c .if2 .taken))
-
-some-above-requires-3 : tie.Need-some-above-requires-3
-some-above-requires-3 c κs = search needs
-
-returns-3 : tie.Need-returns-3
-returns-3 c =
-    let two = c .before in
-    let one = two .before .before in
-    writes-cs c ∙ sym (figure2-split _ _ _ ∙ simp (sym (reads-cx (one .before)) ∙ one .if1 .left, sym (writes-cx (two .before)) ∙ two .if2 .left))
+unfolding figure2
+returns c =
+    let m = c .before .before .before .before .before in
+    let n = m .before in
+    let e = n .before .args .e in
+    let l = lists (n .before) in
+    c .clash .ensures ∙ rw (few-take (e .nr) _ (l .reads) (n .few .ensures), few-take (e .nw) _ (l .writes) (m .few2 .ensures))
 
 pub clashes-spec : {M : Type 1} → statement M
 clashes-spec =
@@ -69,9 +60,9 @@ clashes-spec =
     (tie.spec
     few-requires
     few-requires-2
-    some-above-requires
-    returns
-    some-above-requires-2
-    returns-2
-    some-above-requires-3
-    returns-3)
+    array-share-prefix-reads
+    slice-aggregate-clash
+    array-share-prefix-writes
+    slice-aggregate-clash-2
+    clash-requires
+    returns)

@@ -1,15 +1,13 @@
 -- What the first i records do not show, the rest shows, if anything.
-use borrow.Author.Needs.{needs}
 use Prim.Native.Nat.{_≤_, _-_}
-use native.Mathlib.Omega.{arith}
 use mathlib.Core.Path.{_≡_, sym, _∙_}
-use lib.ListN.{length, take, drop}
-use Rattle.entry.proofs.Typed.{Bytes, bytes}
 use lib.Dec.{ltb}
+use lib.ListN.{length, drop}
 use borrow.Author.Tests.{lt-ltb, le-ltb}
 use Rattle.rules.specs.Lists.{some}
-use Rattle.rules.proofs.Steps.{some-part-step, some-part-end}
+use Rattle.rules.proofs.Steps.{some-step, some-end}
 use Rattle.counters.specs.Counters.{at}
+use borrow.Author.Needs.{needs}
 use Rattle.counters.proofs.some_above.Statement.{statement}
 use Rattle.counters.proofs.some_above.Tie as tie
 use Rattle.counters.proofs.some_above.Reads as reads
@@ -17,24 +15,17 @@ use Rattle.counters.proofs.some_above.Lts as lts
 use Rattle.counters.proofs.wide.Reads as wide-reads
 
 abbrev Inv-loop : tie.InvT-loop
-Inv-loop counters n floor list i₀ i =
-    (i ≤ n) × (some (λ k. ltb floor (at counters k)) (take n list) ≡ some (λ k. ltb floor (at counters k)) (drop i (take n list)))
+Inv-loop counters list floor n i₀ i =
+    (i ≤ length list) × (some (λ k. ltb floor (at counters k)) list ≡ some (λ k. ltb floor (at counters k)) (drop i list))
 
 abbrev μ-loop : tie.MeasureT-loop
-μ-loop counters n floor list i₀ i = n - i
-
--- what the type of the list says of it
-listed : (c : tie.Start Inv-loop μ-loop) → Bytes 8 (c .args .t2)
-listed c = bytes 8 (c .args .t2) _ (c .good .1 .0)
-
-fits : (c : tie.Start Inv-loop μ-loop) → c .args .n ≤ length (c .args .t2)
-fits c = omega (arith, listed c .size)
+μ-loop counters list floor n i₀ i = length list - i
 
 loop-holds : tie.Need-loop-holds Inv-loop μ-loop
 loop-holds c = search needs
 
-array-read-wide : tie.Need-array-read-wide Inv-loop μ-loop
-array-read-wide c = search needs
+shared-slice-read-wide : tie.Need-shared-slice-read-wide Inv-loop μ-loop
+shared-slice-read-wide c = search needs
 
 wide-requires : tie.Need-wide-requires Inv-loop μ-loop
 wide-requires c κs = search needs
@@ -44,9 +35,9 @@ element-copy-out-if1 c = c .wide .ensures .1
 
 returns : tie.Need-returns Inv-loop μ-loop
 returns c =
-    let a = c .before .before .before .before in
+    let a = c .before .before .before .before .before in
     let hit = lt-ltb _ _ (rw (c .before .before .wide .ensures .0) at (c .if1 .taken)) in
-    sym (a .loop .inv .1 ∙ some-part-step _ _ _ _ 0 (c .before .before .before .loop-test .taken) (fits (a .before)) ∙ simp hit)
+    sym (a .loop .inv .1 ∙ some-step _ _ _ 0 (c .before .before .before .before .loop-test .taken) ∙ simp hit)
 
 add-i : tie.Need-add-i Inv-loop μ-loop
 add-i c = search needs
@@ -56,12 +47,12 @@ loop-less c = search needs
 
 loop-again : tie.Need-loop-again Inv-loop μ-loop
 loop-again c =
-    let a = c .before .before .before .before in
+    let a = c .before .before .before .before .before in
     let miss = le-ltb _ _ (rw (c .before .before .wide .ensures .0) at (c .if1 .left)) in
-    (search needs, a .loop .inv .1 ∙ some-part-step _ _ _ _ 0 (c .before .before .before .loop-test .taken) (fits (a .before)) ∙ simp miss)
+    (search needs, a .loop .inv .1 ∙ some-step _ _ _ 0 (c .before .before .before .before .loop-test .taken) ∙ simp miss)
 
 returns-2 : tie.Need-returns-2 Inv-loop μ-loop
-returns-2 c = sym (c .before .loop .inv .1 ∙ some-part-end _ _ _ _ (c .loop-test .left))
+returns-2 c = sym (c .before .loop .inv .1 ∙ some-end _ _ _ (c .loop-test .left))
 
 pub some-above-spec : {M : Type 1} → statement M
 some-above-spec =
@@ -70,7 +61,7 @@ some-above-spec =
     Inv-loop
     μ-loop
     loop-holds
-    array-read-wide
+    shared-slice-read-wide
     wide-requires
     element-copy-out-if1
     returns

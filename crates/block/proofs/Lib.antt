@@ -1,0 +1,14 @@
+pub mod Places
+pub mod Each
+pub mod Writing
+pub mod Reading
+pub mod Whole
+pub mod Back
+pub mod Exact
+pub mod Loading
+pub mod Encoding
+pub mod Telling
+pub mod Passing
+pub mod Sweep
+pub mod Swept
+pub mod Gathered

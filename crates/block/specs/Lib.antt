@@ -1,0 +1,5 @@
+pub mod Bytes
+pub mod Block
+pub mod Clauses
+pub mod Read
+pub mod Check

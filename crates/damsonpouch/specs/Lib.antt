@@ -1,0 +1,3 @@
+pub mod Reply
+pub mod Linked
+pub mod Stretches
