@@ -2,6 +2,7 @@
 //!
 //! - `encode`: one record to bytes.
 //! - `text`: readable text to bytes; `back`: bytes to readable text.
+//! - `blocklines`: text that drives a block of Item 1, for whoever keeps one.
 //! - `kinds`: the kinds of generated file, and `long`: long files to measure
 //!   with. Each is made with `random` (the numbers) and `sheet` (the file so far
 //!   with the state it leads to).
@@ -9,6 +10,7 @@
 //! - `program`: how the programs end.
 
 pub mod back;
+pub mod blocklines;
 mod boundary;
 mod damaged;
 pub mod encode;
