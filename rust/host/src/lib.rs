@@ -39,6 +39,6 @@ mod locks;
 mod outcome;
 mod refusal;
 
-pub use locks::{Locks, BLOCK_LENGTH, TENANTS};
+pub use locks::{is_sound, Locks, BLOCK_LENGTH, TENANTS};
 pub use outcome::{Answer, Name, Outcome, State};
 pub use refusal::Refusal;

@@ -9,6 +9,15 @@ pub const BLOCK_LENGTH: usize = 2176;
 /// The number of tenants, and so of shares.
 pub const TENANTS: usize = 16;
 
+/// Whether these bytes are a sound block, as [`Locks::is_sound`], of a block that is only lent to be read.
+///
+/// ```
+/// assert!(!damsonpouch::is_sound(&[0; damsonpouch::BLOCK_LENGTH]));
+/// ```
+pub fn is_sound(block: &[u8]) -> bool {
+    linked::sound(block)
+}
+
 /// The lock manager over a block that the host lends: eight calls, and a check.
 ///
 /// The block is the whole state. A call reads it, checks that it is [sound](Locks::is_sound), does what the call does, and writes
@@ -79,7 +88,7 @@ impl<'a> Locks<'a> {
     /// assert!(locks.is_sound());
     /// ```
     pub fn is_sound(&self) -> bool {
-        linked::sound(self.block)
+        is_sound(self.block)
     }
 
     /// A host call: overwrites any block of the right length with a fresh state, in which tenant t has `shares[t - 1]` of the
