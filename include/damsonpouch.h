@@ -7,8 +7,7 @@
  *
  * What a caller owes to every call:
  *   - `block` is valid to read and write for `length` bytes, and nobody else uses those bytes while the call runs;
- *   - a list is valid to read for its length, and lies outside the block. An empty list (a length of 0) may be NULL, and so may a
- *     block of length 0.
+ *   - a list is valid to read for its length, and lies outside the block. An empty list (a length of 0) may be NULL.
  * Nothing else: a call takes any bytes in the block, any length of it, any numbers and any lists, ends, and answers. It allocates
  * nothing, locks nothing and has no variable of its own, so two threads may make calls on two blocks at the same time. */
 
