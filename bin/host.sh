@@ -30,17 +30,25 @@ build_archive() {
     export DAMSONPOUCH_LIB=$archive
 }
 
-# Sets what cargo and the C compiler need to build for x86-64, and to run what they built.
+# finds how a program for x86-64 runs here: $host_runner, nothing on such a processor, and elsewhere Debian's emulator with the
+# kit's loader and C library, since the kit's emulator does not run a Rust program
+find_host_runner() {
+    host_runner=()
+    [ "$(uname -m)" != x86_64 ] || return 0
+    needs_x86_64
+    find_runner
+    host_runner=("$(dpkg -L qemu-user | grep '/bin/qemu-x86_64$')" "${loader[@]}")
+}
+
+# sets what cargo and the C compiler, $host_cc, need to build for x86-64, and to run what they built
 find_host_tools() {
     needs_cargo
+    find_host_runner
     host_cc=cc
-    host_runner=()
     if [ "$(uname -m)" = x86_64 ]; then
         command -v cc >/dev/null 2>&1 || package gcc libc6-dev
     else
-        needs_x86_64
         host_cc=x86_64-linux-gnu-gcc
-        host_runner=("$root/bin/run-x86_64")
         RUSTC=$(dpkg -L rustc-web | grep '/bin/rustc$')
         RUSTDOC=$(dirname "$RUSTC")/rustdoc
         export RUSTC RUSTDOC
