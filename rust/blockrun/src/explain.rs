@@ -187,3 +187,122 @@ fn counter_line(name: &str, counters: &[u8]) -> String {
     }
     format!("{}:{}", name, shown)
 }
+
+#[cfg(test)]
+mod tests {
+    use super::*;
+    use second::block::{read, write};
+    use second::{Entry, Request, State, Table};
+
+    fn agreed(block: &[u8]) -> String {
+        let second = read(block).err();
+        let linked = second.is_none();
+        words(block, &Verdict { linked, second })
+    }
+
+    fn entry(tenant: u8, serial: u16, state: State, reads: &[u8], writes: &[u8]) -> Entry {
+        let request = Request {
+            awaited: 0,
+            reads: reads.to_vec(),
+            writes: writes.to_vec(),
+        };
+        Entry {
+            tenant,
+            serial,
+            state,
+            due: 0,
+            request,
+        }
+    }
+
+    fn block() -> Vec<u8> {
+        let mut table = Table::default();
+        table.meters[0].share = 2;
+        table.meters[0].fuel = 1_000_000_000;
+        table.meters[0].serials = 65_535;
+        table.meters[15].share = 1;
+        table.meters[15].serials = 1;
+        table
+            .queue
+            .push(entry(1, 65_534, State::Free, &[], &[10, 255]));
+        table
+            .queue
+            .push(entry(16, 1, State::Blocked, &[0, 10], &[]));
+        table.queue[1].request.awaited = 3;
+        table.queue[1].due = 2;
+        write(&table).to_vec()
+    }
+
+    #[test]
+    fn a_sound_block() {
+        assert_eq!(
+            agreed(&block()),
+            "sound\n\
+             tenant 1: share 2, places held 1, fuel 1000000000, serials given 65535\n\
+             tenant 16: share 1, places held 1, fuel 0, serials given 1\n\
+             queue: 2 entries, front first\n\
+             \x20 1. 1.65534 free, awaited 0, due 0, reads none, writes 10 255\n\
+             \x20 2. 16.1 blocked, awaited 3, due 2, reads 0 10, writes none\n\
+             Cx: 10=1 255=1\n\
+             Cs: 0=1 10=1\n"
+        );
+    }
+
+    #[test]
+    fn an_unsound_block_is_shown_too() {
+        let mut bytes = block();
+        bytes[ENTRIES_AT + 3] = 7;
+        bytes[COUNT_AT + 1 + ENTRY_BYTES + 6] = 200;
+        bytes[CX_AT] = 9;
+        let told = agreed(&bytes);
+        for line in [
+            "  1. 1.65534 state 7, awaited 0, due 0, reads none, writes 10 255\n",
+            "  2. 16.1 blocked, awaited 3, due 2, 200 reads and 0 writes, record bytes 0 10 0 0 ",
+            "Cx: 0=9 10=1 255=1\n",
+            "  the rule: states are 0 to 2\n",
+        ] {
+            assert!(told.contains(line), "no {:?} in:\n{}", line, told);
+        }
+        assert!(told.starts_with("not sound: entry 1 (1.65534) has state 7"));
+    }
+
+    /// Whatever the bytes are, there are words for them.
+    #[test]
+    fn any_bytes() {
+        for byte in [0, 1, 16, 64, 65, 255] {
+            let told = agreed(&vec![byte; BYTES]);
+            assert!(told.starts_with("not sound: byte 0 is "), "{}", told);
+            assert!(told.contains("\nqueue: "));
+            for length in [0, 1, BYTES - 1, BYTES + 1] {
+                let told = agreed(&vec![byte; length]);
+                let first = format!("not sound: the block has {} bytes, not 2176\n", length);
+                assert!(told.starts_with(&first));
+                assert_eq!(told.lines().count(), 2);
+            }
+        }
+    }
+
+    #[test]
+    fn where_the_two_differ() {
+        let sound = block();
+        let mut broken = sound.clone();
+        broken[0] = 0;
+        let told = |linked, block: &[u8]| {
+            let second = read(block).err();
+            let verdict = Verdict { linked, second };
+            (verdict.differs(), words(block, &verdict))
+        };
+        assert!(!told(true, &sound).0);
+        assert!(!told(false, &broken).0);
+        let (differs, lines) = told(false, &sound);
+        assert!(differs);
+        assert!(
+            lines.starts_with("not sound\n  DIFFERENT: the second program finds it sound\ntenant")
+        );
+        let (differs, lines) = told(true, &broken);
+        assert!(differs);
+        assert!(lines.starts_with(
+            "sound\n  DIFFERENT: the second program finds it not sound: byte 0 is 00"
+        ));
+    }
+}
