@@ -143,8 +143,8 @@ pub fn open(random: &mut Random) -> Call {
     }
     match random.below(8) {
         0 => shares = random.bytes(TENANTS),
-        // The sum is 0 or 64 in eight bits.
-        1 => shares = vec![random.one_of(&[16, 255, 128, 20]); TENANTS],
+        // Sums of 64, and of 256 to 4,080; in eight bits 0, 64, 0 and 240.
+        1 => shares = vec![random.one_of(&[4, 16, 20, 128, 255]); TENANTS],
         2 => shares.truncate(random.below(TENANTS)),
         3 => {
             let more = random.one_of(&[1, 1, 16, 240]);
