@@ -1,5 +1,5 @@
-//! Finds `libdamsonpouch.a`: in the folder that `DAMSONPOUCH_LIB` names, and else where `rt staticlib damsonpouch` writes
-//! it in this repository.
+//! Finds `libdamsonpouch.a`: in the folder that `DAMSONPOUCH_LIB` names, and
+//! else where `rt staticlib damsonpouch` writes it in this repository.
 
 use std::env;
 use std::path::{Path, PathBuf};
@@ -14,8 +14,8 @@ fn main() {
     let target = env::var("TARGET").unwrap_or_default();
     if !target.starts_with("x86_64-") {
         stop(&format!(
-            "{} links only into programs for x86-64, and this build is for {}: in the repository use bin/host-cargo, elsewhere \
-             cargo's --target x86_64-unknown-linux-gnu",
+            "{} links only into programs for x86-64, and this build is for {}: in the \
+             repository use bin/host-cargo, elsewhere cargo's --target x86_64-unknown-linux-gnu",
             ARCHIVE, target
         ));
     }
@@ -24,7 +24,8 @@ fn main() {
     println!("cargo:rerun-if-changed={}", archive.display());
     if !archive.is_file() {
         stop(&format!(
-            "{} is missing: run `rt staticlib damsonpouch` in the repository, or let {} name the folder that has {}",
+            "{} is missing: run `rt staticlib damsonpouch` in the repository, or let {} name \
+             the folder that has {}",
             archive.display(),
             FOLDER,
             ARCHIVE
@@ -34,7 +35,8 @@ fn main() {
     println!("cargo:rustc-link-lib=static=damsonpouch");
 }
 
-/// A folder that is not named from the root is taken from where cargo was called, as far as that is known.
+/// A folder that is not named from the root is taken from where cargo was
+/// called, as far as that is known.
 fn folder() -> PathBuf {
     let here = PathBuf::from(env::var_os("CARGO_MANIFEST_DIR").unwrap_or_default());
     match env::var_os(FOLDER) {

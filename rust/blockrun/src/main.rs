@@ -20,7 +20,8 @@ fn run(arguments: &[String]) -> Result<(), Stop> {
     match machine.different() {
         0 => Ok(()),
         different => Err(Stop::Wrong(format!(
-            "the second program differs from the linked check in {} explanation(s), marked DIFFERENT",
+            "the second program differs from the linked check in {} explanation(s), \
+             marked DIFFERENT",
             different
         ))),
     }

@@ -53,15 +53,16 @@ fn main() -> Result<(), Box<dyn std::error::Error>> {
     told("the takings are booked", booked).answer?;
     told("nobody is left", locks.pick()).answer?;
 
-    // Fuel stands in the block: four bytes for each tenant, the high byte first,
-    // and six bytes from one tenant to the next.
+    // Fuel stands in the block: four bytes for each tenant, the high byte
+    // first, and six bytes from one tenant to the next.
     let at = 22 + 6 * (usize::from(SELLER) - 1);
     let fuel = locks.block()[at..at + 4]
         .iter()
         .fold(0, |high, &low| high << 8 | u32::from(low));
     println!("the seller has {} units left", fuel);
 
-    // A host bug: a counter is overwritten. The calls say so, and touch nothing.
+    // A host bug: a counter is overwritten. The calls say so, and touch
+    // nothing.
     block[121 + usize::from(LAMPS)] = 1;
     let broken = Locks::over(&mut block).pick();
     let _ = told("a block with a wrong counter", broken);

@@ -1,8 +1,10 @@
-//! The proved lock manager for one table of 256 records, called from Rust on a block of bytes that the host lends.
+//! The proved lock manager for one table of 256 records, called from Rust on a
+//! block of bytes that the host lends.
 //!
-//! A request asks for all its locks at once and is queued; the front of the queue may always run. Work is metered in fuel and
-//! paid by the tenant that made the call. The eight calls are methods of [`Locks`]; each gives an [`Outcome`]: an [`Answer`] or
-//! a [`Refusal`], and the units burnt.
+//! A request asks for all its locks at once and is queued; the front of the
+//! queue may always run. Work is metered in fuel and paid by the tenant that
+//! made the call. The eight calls are methods of [`Locks`]; each gives an
+//! [`Outcome`]: an [`Answer`] or a [`Refusal`], and the units burnt.
 //!
 //! ```
 //! use damsonpouch::{Answer, Locks, Refusal, State, BLOCK_LENGTH};
@@ -24,9 +26,11 @@
 //! # }
 //! ```
 //!
-//! What the calls do is written in Rattle and proved, and comes as the static library `libdamsonpouch.a`, for x86-64. This crate
-//! declares its functions and gives them Rust's types; `unsafe` stands in one file of it alone. The rules of the calls, their
-//! prices and the order of their refusals are in `docs/CALLS.md` of the repository; how to build and link, and the block's
+//! What the calls do is written in Rattle and proved, and comes as the static
+//! library `libdamsonpouch.a`, for x86-64. This crate declares its functions
+//! and gives them Rust's types; `unsafe` stands in one file of it alone. The
+//! rules of the calls, their prices and the order of their refusals are in
+//! `docs/CALLS.md` of the repository; how to build and link, and the block's
 //! layout, in `docs/HOST.md`.
 
 #![deny(missing_docs)]

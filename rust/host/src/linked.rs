@@ -1,8 +1,8 @@
-//! The functions of `libdamsonpouch.a`, as the archive has them, and safe functions over them. No other file declares one of
-//! them or has `unsafe`.
+//! The functions of `libdamsonpouch.a`, as the archive has them, and safe
+//! functions over them. No other file declares one of them or has `unsafe`.
 //!
-//! Nothing compares these lines with the source that was proved; the tests give every call, every answer and every refusal
-//! through them.
+//! Nothing compares these lines with the source that was proved; the tests give
+//! every call, every answer and every refusal through them.
 
 /// What a call hands back. `include/damsonpouch.h` has the same for C.
 #[repr(C)]
@@ -42,12 +42,15 @@ extern "C" {
     fn damsonpouch_sound(block: *const u8, length: usize) -> bool;
 }
 
-// What every call below rests on: it asks for a block that is valid to read and write for `length` bytes and that nobody else
-// uses while the call runs, and for lists that are valid to read and lie outside the block. It keeps no pointer. It takes any
-// bytes, any length, 0 among them, and any numbers: its contract has no other premise, and it is proved to end.
+// What every call below rests on: it asks for a block that is valid to read and
+// write for `length` bytes and that nobody else uses while the call runs, and
+// for lists that are valid to read and lie outside the block. It keeps no
+// pointer. It takes any bytes, any length, 0 among them, and any numbers: its
+// contract has no other premise, and it is proved to end.
 
 pub(crate) fn open(block: &mut [u8], shares: &[u8]) -> Reply {
-    // SAFETY: both pointers come from slices with these lengths; the block's is exclusive, so the shares lie outside it.
+    // SAFETY: both pointers come from slices with these lengths; the block's is
+    // exclusive, so the shares lie outside it.
     unsafe {
         damsonpouch_open(
             block.as_mut_ptr(),
@@ -70,8 +73,9 @@ pub(crate) fn begin(
     reads: &[u8],
     writes: &[u8],
 ) -> Reply {
-    // SAFETY: the pointers come from slices with these lengths; the block's is exclusive, so both lists lie outside it. The
-    // lists are only read, so they may overlap each other.
+    // SAFETY: the pointers come from slices with these lengths; the block's is
+    // exclusive, so both lists lie outside it. The lists are only read, so they
+    // may overlap each other.
     unsafe {
         damsonpouch_begin(
             block.as_mut_ptr(),
@@ -112,6 +116,7 @@ pub(crate) fn deliver(block: &mut [u8], tenant: u8, serial: u16) -> Reply {
 }
 
 pub(crate) fn sound(block: &[u8]) -> bool {
-    // SAFETY: pointer and length come from one slice, which is only read. The function gives 0 or 1.
+    // SAFETY: pointer and length come from one slice, which is only read. The
+    // function gives 0 or 1.
     unsafe { damsonpouch_sound(block.as_ptr(), block.len()) }
 }

@@ -9,7 +9,8 @@ pub const BLOCK_LENGTH: usize = 2176;
 /// The number of tenants, and so of shares.
 pub const TENANTS: usize = 16;
 
-/// Whether these bytes are a sound block, as [`Locks::is_sound`], of a block that is only lent to be read.
+/// Whether these bytes are a sound block, as [`Locks::is_sound`], of a block
+/// that is only lent to be read.
 ///
 /// ```
 /// assert!(!damsonpouch::is_sound(&[0; damsonpouch::BLOCK_LENGTH]));
@@ -20,9 +21,12 @@ pub fn is_sound(block: &[u8]) -> bool {
 
 /// The lock manager over a block that the host lends: eight calls, and a check.
 ///
-/// The block is the whole state. A call reads it, checks that it is [sound](Locks::is_sound), does what the call does, and writes
-/// it back; nothing is kept elsewhere. So a block may be copied, stored, sent and lent again at any time between two calls. Every
-/// call takes any bytes, any length of the block and any numbers, and answers; none of them panics, allocates or blocks.
+/// The block is the whole state. A call reads it, checks that it is
+/// [sound](Locks::is_sound), does what the call does, and writes it back;
+/// nothing is kept elsewhere. So a block may be copied, stored, sent and lent
+/// again at any time between two calls. Every call takes any bytes, any length
+/// of the block and any numbers, and answers; none of them panics, allocates or
+/// blocks.
 ///
 /// ```
 /// use damsonpouch::{Locks, Refusal, BLOCK_LENGTH};
@@ -46,9 +50,11 @@ pub struct Locks<'a> {
 }
 
 impl<'a> Locks<'a> {
-    /// The manager over these bytes. They are neither read nor written yet, and may be anything: a new block is made by
-    /// [`open`](Locks::open), and one that was used before is taken as it is. Where they are not [`BLOCK_LENGTH`], every call
-    /// is refused with [`NotSound`](crate::Refusal::NotSound).
+    /// The manager over these bytes. They are neither read nor written yet, and
+    /// may be anything: a new block is made by [`open`](Locks::open), and one
+    /// that was used before is taken as it is. Where they are not
+    /// [`BLOCK_LENGTH`], every call is refused with
+    /// [`NotSound`](crate::Refusal::NotSound).
     ///
     /// ```
     /// use damsonpouch::{Locks, Refusal};
@@ -75,8 +81,9 @@ impl<'a> Locks<'a> {
         self.block
     }
 
-    /// Whether the block is sound: what [`open`](Locks::open) makes, what every call keeps, and what every call but Open asks
-    /// for. A host need not ask, since the calls do.
+    /// Whether the block is sound: what [`open`](Locks::open) makes, what every
+    /// call keeps, and what every call but Open asks for. A host need not ask,
+    /// since the calls do.
     ///
     /// ```
     /// use damsonpouch::{Locks, BLOCK_LENGTH};
@@ -91,11 +98,13 @@ impl<'a> Locks<'a> {
         is_sound(self.block)
     }
 
-    /// A host call: overwrites any block of the right length with a fresh state, in which tenant t has `shares[t - 1]` of the
-    /// 64 queue places, no fuel, and no serial given.
+    /// A host call: overwrites any block of the right length with a fresh
+    /// state, in which tenant t has `shares[t - 1]` of the 64 queue places, no
+    /// fuel, and no serial given.
     ///
-    /// Refusals: [`NotSound`](crate::Refusal::NotSound) for a wrong length alone; [`BadShares`](crate::Refusal::BadShares),
-    /// which leaves a fresh state with every share 0.
+    /// Refusals: [`NotSound`](crate::Refusal::NotSound) for a wrong length
+    /// alone; [`BadShares`](crate::Refusal::BadShares), which leaves a fresh
+    /// state with every share 0.
     ///
     /// ```
     /// use damsonpouch::{Answer, Locks, Refusal, BLOCK_LENGTH};
@@ -128,11 +137,14 @@ impl<'a> Locks<'a> {
         linked::grant(self.block, tenant, amount).into()
     }
 
-    /// A tenant's call: asks for all locks of a request at once, which joins the back of the queue. It burns 2 + 2n for n
-    /// records, reads and writes together. `awaited` is the number of remote answers that the request waits for.
+    /// A tenant's call: asks for all locks of a request at once, which joins
+    /// the back of the queue. It burns 2 + 2n for n records, reads and writes
+    /// together. `awaited` is the number of remote answers that the request
+    /// waits for.
     ///
-    /// The answer is the new entry: Blocked if it conflicts with an entry ahead, else Waiting if it awaits answers, and else
-    /// Free. Refusals, in this order: 15, 1 to 9.
+    /// The answer is the new entry: Blocked if it conflicts with an entry
+    /// ahead, else Waiting if it awaits answers, and else Free. Refusals, in
+    /// this order: 15, 1 to 9.
     ///
     /// ```
     /// # let mut block = [0; damsonpouch::BLOCK_LENGTH];
@@ -152,7 +164,8 @@ impl<'a> Locks<'a> {
         linked::begin(self.block, tenant, awaited, reads, writes).into()
     }
 
-    /// A tenant's call: a Free entry leaves the queue. It burns 0, so that a tenant without fuel can let go.
+    /// A tenant's call: a Free entry leaves the queue. It burns 0, so that a
+    /// tenant without fuel can let go.
     ///
     /// Refusals, in this order: 15, 1; then a Free entry leaves; 2, 10, 11.
     ///
@@ -169,8 +182,8 @@ impl<'a> Locks<'a> {
         linked::finish(self.block, tenant, serial).into()
     }
 
-    /// A tenant's call: promotes a Blocked entry if no other entry conflicts with it, ahead or behind, and else answers Still.
-    /// It burns 1 + n.
+    /// A tenant's call: promotes a Blocked entry if no other entry conflicts
+    /// with it, ahead or behind, and else answers Still. It burns 1 + n.
     ///
     /// Refusals, in this order: 15, 1, 2, 10, 11, 9.
     ///
@@ -189,10 +202,12 @@ impl<'a> Locks<'a> {
         linked::recheck(self.block, tenant, serial).into()
     }
 
-    /// A tenant's call: promotes the tenant's first Blocked entry that conflicts with none ahead, and else answers Nothing. It
-    /// burns 1, and 1 + n for each entry that it looks at: 1,089 at most.
+    /// A tenant's call: promotes the tenant's first Blocked entry that
+    /// conflicts with none ahead, and else answers Nothing. It burns 1, and 1 +
+    /// n for each entry that it looks at: 1,089 at most.
     ///
-    /// Refusals, in this order: 15, 1, 2; then 9 where the fuel is below the next entry's price.
+    /// Refusals, in this order: 15, 1, 2; then 9 where the fuel is below the
+    /// next entry's price.
     ///
     /// ```
     /// # let mut block = [0; damsonpouch::BLOCK_LENGTH];
@@ -209,7 +224,8 @@ impl<'a> Locks<'a> {
         linked::scan(self.block, tenant).into()
     }
 
-    /// A host call: promotes the front of the queue if it is Blocked, and else answers Nothing.
+    /// A host call: promotes the front of the queue if it is Blocked, and else
+    /// answers Nothing.
     ///
     /// Refusals: 15.
     ///
@@ -228,8 +244,8 @@ impl<'a> Locks<'a> {
         linked::pick(self.block).into()
     }
 
-    /// A host call: one remote answer of an entry has come. A Waiting entry with none left due becomes Free; a Blocked one
-    /// stays Blocked.
+    /// A host call: one remote answer of an entry has come. A Waiting entry
+    /// with none left due becomes Free; a Blocked one stays Blocked.
     ///
     /// Refusals, in this order: 15, 1, 10, 12.
     ///

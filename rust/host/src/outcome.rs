@@ -44,7 +44,8 @@ impl fmt::Display for Name {
     }
 }
 
-/// The answer of a call that was not refused. Its [`Display`](fmt::Display) is the listing's word, as `free:1.1`.
+/// The answer of a call that was not refused. Its [`Display`](fmt::Display) is
+/// the listing's word, as `free:1.1`.
 #[derive(Clone, Copy, Debug, PartialEq, Eq, Hash)]
 pub enum Answer {
     /// Of Open and Grant.
@@ -55,7 +56,8 @@ pub enum Answer {
     Still,
     /// Of Scan and Pick: no entry was promoted.
     Nothing,
-    /// An entry's state after the call, and its name: of Begin and Deliver, and of Recheck, Scan and Pick where they promote.
+    /// An entry's state after the call, and its name: of Begin and Deliver, and
+    /// of Recheck, Scan and Pick where they promote.
     Entry {
         /// Its state after the call.
         state: State,
@@ -100,9 +102,11 @@ impl fmt::Display for Answer {
     }
 }
 
-/// What a call gave: its answer or its refusal, and the units of fuel that it burnt. A refused call may have burnt some too.
+/// What a call gave: its answer or its refusal, and the units of fuel that it
+/// burnt. A refused call may have burnt some too.
 ///
-/// Its [`Display`](fmt::Display) is the listing's two words: `free:1.1 4`, `refused:15 0`.
+/// Its [`Display`](fmt::Display) is the listing's two words: `free:1.1 4`,
+/// `refused:15 0`.
 ///
 /// ```
 /// use damsonpouch::{Locks, Refusal, State, BLOCK_LENGTH};
@@ -174,7 +178,8 @@ fn state(reply: Reply) -> State {
     }
 }
 
-/// The archive that this crate was written for gives no such reply, whatever the call: another one was linked.
+/// The archive that this crate was written for gives no such reply, whatever
+/// the call: another one was linked.
 fn other_archive(reply: Reply) -> ! {
     panic!(
         "libdamsonpouch.a is not the one that this crate was written for: it gave {:?}",

@@ -3,10 +3,12 @@
 use std::error::Error;
 use std::fmt;
 
-/// Why a call was refused. Its [`Display`](fmt::Display) says it in words; [`number`](Refusal::number) is its number.
+/// Why a call was refused. Its [`Display`](fmt::Display) says it in words;
+/// [`number`](Refusal::number) is its number.
 ///
-/// A refusal leaves the queue, the counters, the places and the serials as they were, and burns the units that the
-/// [`Outcome`](crate::Outcome) tells. Where several apply, a call gives the first in the order that `docs/CALLS.md` has.
+/// A refusal leaves the queue, the counters, the places and the serials as they
+/// were, and burns the units that the [`Outcome`](crate::Outcome) tells. Where
+/// several apply, a call gives the first in the order that `docs/CALLS.md` has.
 /// [`NotSound`](Refusal::NotSound) comes before all others.
 ///
 /// ```
@@ -22,7 +24,8 @@ use std::fmt;
 pub enum Refusal {
     /// 1: the tenant number is not 1 to 16. Burns 0.
     NoSuchTenant = 1,
-    /// 2, "dry": the tenant's fuel is 0. Burns 0. Not given by Finish of a Free entry.
+    /// 2, "dry": the tenant's fuel is 0. Burns 0. Not given by Finish of a Free
+    /// entry.
     Dry = 2,
     /// 3: more than 8 reads or more than 8 writes. Burns 1.
     TooManyRecords = 3,
@@ -36,20 +39,24 @@ pub enum Refusal {
     ShareHeld = 7,
     /// 8: the tenant has been given all 65,535 serials. Burns 1.
     SerialsGiven = 8,
-    /// 9: the fuel is below the price (Begin and Recheck, burning 1), or a scan was cut short (burning what it had burnt).
+    /// 9: the fuel is below the price (Begin and Recheck, burning 1), or a scan
+    /// was cut short (burning what it had burnt).
     FuelBelowPrice = 9,
     /// 10: the tenant has no such entry in the queue. Burns 1, of Deliver 0.
     NoSuchEntry = 10,
-    /// 11: Finish of an entry that is not Free, or Recheck of one that is not Blocked. Burns 1.
+    /// 11: Finish of an entry that is not Free, or Recheck of one that is not
+    /// Blocked. Burns 1.
     WrongState = 11,
     /// 12: Deliver with no answer due. Burns 0.
     NothingDue = 12,
     /// 13: with this Grant the tenant's fuel would pass 1,000,000,000. Burns 0.
     TooMuchFuel = 13,
-    /// 14: Open without exactly 16 shares, or their sum is above 64. Burns 0. The one refusal that writes: the block then
-    /// holds a fresh state with every share 0.
+    /// 14: Open without exactly 16 shares, or their sum is above 64. Burns 0.
+    /// The one refusal that writes: the block then holds a fresh state with
+    /// every share 0.
     BadShares = 14,
-    /// 15: the block is not sound, or has not 2,176 bytes; of Open, only the latter. Burns 0, and the block is as it was.
+    /// 15: the block is not sound, or has not 2,176 bytes; of Open, only the
+    /// latter. Burns 0, and the block is as it was.
     NotSound = 15,
 }
 

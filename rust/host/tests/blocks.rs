@@ -1,10 +1,13 @@
-//! Sound and unsound blocks: each rule of document 02's Item 1, just kept and just broken. An unsound block is refused by every
-//! call, unchanged, and Open overwrites it.
+//! Sound and unsound blocks: each rule of document 02's Item 1, just kept and
+//! just broken. An unsound block is refused by every call, unchanged, and Open
+//! overwrites it.
 
 mod common;
 
-use common::{base, entry, gives, Entry, Picture, BLOCKED, COUNT, CS, CX, ENTRIES, FREE, WAITING};
-use damsonpouch::{Locks, Outcome, BLOCK_LENGTH};
+use common::{
+    base, entry, gives, Call, Entry, Picture, BLOCKED, COUNT, CS, CX, ENTRIES, FREE, WAITING,
+};
+use damsonpouch::{Locks, BLOCK_LENGTH};
 
 fn is_sound(block: &[u8]) -> bool {
     Locks::over(&mut block.to_vec()).is_sound()
@@ -21,7 +24,7 @@ fn sound(why: &str, picture: &Picture) {
 #[track_caller]
 fn unsound(why: &str, block: &[u8]) {
     assert!(!is_sound(block), "sound: {}", why);
-    let calls: [fn(&mut Locks<'_>) -> Outcome; 7] = [
+    let calls: [Call; 7] = [
         |locks| locks.grant(1, 1),
         |locks| locks.begin(1, 0, &[], &[200]),
         |locks| locks.finish(1, 1),
@@ -233,7 +236,8 @@ fn conflicts() {
         );
         sound("a Blocked one", &of(BLOCKED, 0, reads, writes));
     }
-    // one that is no longer held up may still be called Blocked, and the entries ahead count though they are Blocked
+    // one that is no longer held up may still be called Blocked, and the
+    // entries ahead count though they are Blocked
     sound("Blocked behind nobody", &of(BLOCKED, 0, &[7], &[]));
     let mut ahead = of(FREE, 0, &[2], &[]);
     ahead.queue[0].state = BLOCKED;
@@ -244,7 +248,8 @@ fn conflicts() {
 
 #[test]
 fn a_block_with_one_changed_byte_is_never_written() {
-    // whatever byte is changed and however: either the block is sound, or nothing of it is
+    // whatever byte is changed and however: either the block is sound, or
+    // nothing of it is
     let base = base().bytes();
     for at in (0..BLOCK_LENGTH).step_by(5) {
         for to in [0, 1, 2, 16, 255] {

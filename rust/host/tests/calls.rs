@@ -1,8 +1,9 @@
-//! Every call and every answer, with the block's bytes after it, worked out by hand from document 01.
+//! Every call and every answer, with the block's bytes after it, worked out by
+//! hand from document 01.
 
 mod common;
 
-use common::{base, entry, gives, Picture, BLOCKED, FREE, WAITING};
+use common::{base, entry, gives, Call, Picture, BLOCKED, FREE, WAITING};
 use damsonpouch::{Answer, Locks, Name, Outcome, Refusal, State, BLOCK_LENGTH, TENANTS};
 
 #[test]
@@ -162,7 +163,8 @@ fn recheck_says_still_or_promotes() {
         "free:2.1 4",
         &after.bytes(),
     );
-    // an entry behind counts too, and one that was begun with awaited answers waits
+    // an entry behind counts too, and one that was begun with awaited answers
+    // waits
     let mut behind = Picture::fresh(&[2])
         .fuel(1, 9)
         .serials(1, 2)
@@ -236,7 +238,8 @@ fn pick_promotes_a_blocked_front() {
         "free:2.1 0",
         &after.bytes(),
     );
-    // document 01's rule of promotion goes by the awaited answers, not by those due
+    // document 01's rule of promotion goes by the awaited answers, not by those
+    // due
     let mut front = front;
     front.queue[0] = front.queue[0].clone().awaits(2, 0);
     let mut after = front.clone();
@@ -284,7 +287,7 @@ fn deliver_takes_an_answer() {
 fn the_documents_listing() {
     let mut block = vec![0; BLOCK_LENGTH];
     let mut locks = Locks::over(&mut block);
-    let calls: [(fn(&mut Locks<'_>) -> Outcome, &str); 12] = [
+    let calls: [(Call, &str); 12] = [
         (
             |locks| locks.open(&[2, 2, 0, 0, 0, 0, 0, 0, 0, 0, 0, 0, 0, 0, 0, 0]),
             "ok 0",
@@ -342,7 +345,8 @@ fn answers_are_what_they_say() {
     assert_eq!(Answer::Still.to_string(), "still");
 }
 
-/// A block is the whole state: a copy of it, lent from elsewhere, goes on where the other stood.
+/// A block is the whole state: a copy of it, lent from elsewhere, goes on where
+/// the other stood.
 #[test]
 fn a_copy_goes_on() {
     let mut first = base().bytes();

@@ -1,12 +1,11 @@
-//! Every refusal of every call that gives it, with the block's bytes after it: the caller's fuel and nothing else has changed,
-//! where it burns; nothing at all, where it does not.
+//! Every refusal of every call that gives it, with the block's bytes after it:
+//! the caller's fuel and nothing else has changed, where it burns; nothing at
+//! all, where it does not.
 
 mod common;
 
-use common::{base, entry, gives, Picture, BLOCKED, FREE};
-use damsonpouch::{Locks, Outcome, Refusal};
-
-type Call = fn(&mut Locks<'_>) -> Outcome;
+use common::{base, entry, gives, Call, Picture, BLOCKED, FREE};
+use damsonpouch::Refusal;
 
 const NINE: [u8; 9] = [50, 51, 52, 53, 54, 55, 56, 57, 58];
 
@@ -17,7 +16,8 @@ fn refused(number: u8, call: Call) {
     gives(&before, call, &format!("refused:{} 0", number), &before);
 }
 
-/// On the base block: these burn one unit of tenant 1's 40, and change nothing else.
+/// On the base block: these burn one unit of tenant 1's 40, and change nothing
+/// else.
 #[track_caller]
 fn charged(number: u8, call: Call) {
     let said = format!("refused:{} 1", number);
@@ -139,7 +139,8 @@ fn refusal_9_fuel_below_price() {
         "refused:9 1",
         &poor.clone().fuel(2, 2).bytes(),
     );
-    // a scan cut short before its first entry, its second, its third; with 9 it is not
+    // a scan cut short before its first entry, its second, its third; with 9 it
+    // is not
     for (fuel, said, left) in [
         (1, "refused:9 1", 0),
         (2, "refused:9 1", 1),

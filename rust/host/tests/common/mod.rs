@@ -1,7 +1,11 @@
-//! Blocks composed by hand, byte by byte, from the layout in document 02's Item 1. Nothing here calls the library, but `gives`.
+//! Blocks composed by hand, byte by byte, from the layout in document 02's Item
+//! 1. Nothing here calls the library, but `gives`.
 #![allow(dead_code)]
 
 use damsonpouch::{Locks, Outcome, BLOCK_LENGTH};
+
+/// A call with its arguments, for tables of calls.
+pub type Call = fn(&mut Locks<'_>) -> Outcome;
 
 pub const FREE: u8 = 0;
 pub const WAITING: u8 = 1;
@@ -124,8 +128,9 @@ impl Picture {
     }
 }
 
-/// What most tests begin with: 1.1 runs, 1.2 waits for the second of two answers, 2.1 is blocked behind 1.1. Tenant 2 holds all
-/// its places; tenant 3 has places and no fuel.
+/// What most tests begin with: 1.1 runs, 1.2 waits for the second of two
+/// answers, 2.1 is blocked behind 1.1. Tenant 2 holds all its places; tenant 3
+/// has places and no fuel.
 pub fn base() -> Picture {
     Picture::fresh(&[3, 1, 2])
         .fuel(1, 40)
