@@ -1,5 +1,5 @@
 /* The proved lock manager, for C and C++ on x86-64: link libdamsonpouch.a, which `rt staticlib damsonpouch` writes to
- * target/staticlib. It needs nothing but memcpy and memset of the C library.
+ * target/staticlib. It needs nothing but the C library, and of that memcpy and its like.
  *
  * The host lends a block of DAMSONPOUCH_BLOCK_LENGTH bytes, which is the whole state: no call keeps anything elsewhere, so a
  * block may be copied, stored, sent and lent again at any time between two calls. docs/HOST.md has its layout, docs/CALLS.md the

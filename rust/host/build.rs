@@ -44,7 +44,7 @@ fn folder() -> PathBuf {
             let start = env::var_os("PWD").map_or(here, PathBuf::from);
             start.join(named)
         }
-        _ => tidy(&here.join("../../target/staticlib")),
+        _ => tidy(&here.join("../..")).join("target/staticlib"),
     }
 }
 

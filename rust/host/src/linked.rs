@@ -16,6 +16,10 @@ pub(crate) struct Reply {
     pub burnt: u32,
 }
 
+/// As the C side has it: four bytes, a number in two, two that are not used, a
+/// number in four.
+const _: () = assert!(std::mem::size_of::<Reply>() == 12 && std::mem::align_of::<Reply>() == 4);
+
 extern "C" {
     fn damsonpouch_open(
         block: *mut u8,
