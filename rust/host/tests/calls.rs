@@ -363,3 +363,30 @@ fn a_copy_goes_on() {
     assert_eq!(copy[..5], [0xee; 5]);
     assert_eq!(copy[5 + BLOCK_LENGTH..], [0xee; 5]);
 }
+
+/// The calls share nothing: threads with a block each do not meet.
+#[test]
+fn threads_with_a_block_each() {
+    let run = |tenant: u8| {
+        let mut block = vec![0; BLOCK_LENGTH];
+        let mut locks = Locks::over(&mut block);
+        let mut told = vec![locks.open(&[4; TENANTS]), locks.grant(tenant, 1_000_000)];
+        for turn in 1..=2_000 {
+            told.push(locks.begin(tenant, 0, &[tenant], &[100, 200]));
+            told.push(locks.begin(tenant, 1, &[200], &[]));
+            told.push(locks.finish(tenant, 2 * turn - 1));
+            told.push(locks.scan(tenant));
+            told.push(locks.deliver(tenant, 2 * turn));
+            told.push(locks.finish(tenant, 2 * turn));
+        }
+        (told, block)
+    };
+    let threads: Vec<_> = (1..=4)
+        .map(|tenant| std::thread::spawn(move || run(tenant)))
+        .collect();
+    for (tenant, thread) in (1..).zip(threads) {
+        let (told, block) = thread.join().expect("a thread ended");
+        assert!(told.iter().all(|outcome| outcome.answer.is_ok()));
+        assert_eq!((told, block), run(tenant));
+    }
+}
