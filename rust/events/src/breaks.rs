@@ -25,16 +25,18 @@ const RECORDS: usize = 8;
 pub type Break = fn(&mut Random, &mut Table) -> Option<Vec<u8>>;
 
 /// The clause's number in `second::block::CLAUSES`, what is wrong, and how.
-pub const BREAKS: [(usize, &str, Break); 36] = [
+pub const BREAKS: [(usize, &str, Break); 41] = [
     (1, "a byte of a head", head),
     (1, "a head's tag written in decimal", decimal_tag),
     (1, "an unused byte", unused),
+    (1, "the byte behind an entry's records", behind_the_records),
     (1, "a count one too low", count_too_low),
     (2, "shares of 65", shares_of_65),
     (2, "shares far too high", shares_too_high),
     (3, "too much fuel", fuel),
     (3, "awaited above 15", awaited),
     (3, "a count above 64", count),
+    (3, "a count of 65 on a full queue", count_of_65),
     (4, "more due than awaited", due),
     (5, "no such tenant", tenant),
     (5, "a count with an empty entry", count_too_high),
@@ -65,17 +67,35 @@ pub const BREAKS: [(usize, &str, Break); 36] = [
     (10, "Cx and Cs changed about", counters_changed_about),
     (10, "no counters", no_counters),
     (11, "Free in conflict", free_in_conflict),
+    (11, "a reader behind a writer", reader_behind_a_writer),
+    (11, "a writer behind a reader", writer_behind_a_reader),
+    (11, "a writer behind a writer", writer_behind_a_writer),
     (11, "Waiting in conflict", waiting_in_conflict),
 ];
 
-/// An entry of the queue that `wanted` holds for.
+/// An entry of the queue that `wanted` holds for: often the first or the last.
 fn entry(random: &mut Random, table: &Table, wanted: impl Fn(&Entry) -> bool) -> Option<usize> {
     let queue = table.queue.iter().enumerate();
     let found: Vec<usize> = queue
         .filter(|(_, entry)| wanted(entry))
         .map(|(at, _)| at)
         .collect();
-    random.any_of(&found)
+    outermost(random, &found)
+}
+
+/// The first or the last in one draw of four each, else any.
+fn outermost(random: &mut Random, from: &[usize]) -> Option<usize> {
+    match random.below(4) {
+        0 => from.first().copied(),
+        1 => from.last().copied(),
+        _ => random.any_of(from),
+    }
+}
+
+/// Where a tenant's meter stands: often that of 1 or of 16.
+fn any_seat(random: &mut Random) -> usize {
+    let any = random.below(TENANTS);
+    random.one_of(&[0, TENANTS - 1, any, any])
 }
 
 fn any_entry(random: &mut Random, table: &Table) -> Option<usize> {
@@ -127,6 +147,13 @@ fn unused(random: &mut Random, table: &mut Table) -> Option<Vec<u8>> {
     changed(random, table, at)
 }
 
+/// The first unused byte of an entry in the queue.
+fn behind_the_records(random: &mut Random, table: &mut Table) -> Option<Vec<u8>> {
+    let at = entry(random, table, |entry| n(entry) < 16)?;
+    let first = RECORDS + n(&table.queue[at]);
+    changed(random, table, FIRST_ENTRY + at * ENTRY + first)
+}
+
 /// Where the unused bytes of a state's block are.
 pub fn unused_bytes(table: &Table) -> Vec<usize> {
     let mut places = Vec::new();
@@ -151,13 +178,13 @@ fn share_sum(table: &Table) -> usize {
 
 fn shares_of_65(random: &mut Random, table: &mut Table) -> Option<Vec<u8>> {
     let more = 65 - share_sum(table);
-    table.meters[random.below(TENANTS)].share += more as u8;
+    table.meters[any_seat(random)].share += more as u8;
     Some(block::write(table))
 }
 
 /// Some of them have a sum of at most 64 in eight bits.
 fn shares_too_high(random: &mut Random, table: &mut Table) -> Option<Vec<u8>> {
-    let meter = &mut table.meters[random.below(TENANTS)];
+    let meter = &mut table.meters[any_seat(random)];
     meter.share = random.byte_between(65, 255).max(meter.share);
     Some(block::write(table))
 }
@@ -165,7 +192,7 @@ fn shares_too_high(random: &mut Random, table: &mut Table) -> Option<Vec<u8>> {
 fn fuel(random: &mut Random, table: &mut Table) -> Option<Vec<u8>> {
     let any = random.between(MOST_FUEL as usize + 1, u32::MAX as usize) as u32;
     let fuel = random.one_of(&[MOST_FUEL + 1, u32::MAX, 0x8000_0000, any]);
-    table.meters[random.below(TENANTS)].fuel = fuel;
+    table.meters[any_seat(random)].fuel = fuel;
     Some(block::write(table))
 }
 
@@ -182,6 +209,15 @@ fn count(random: &mut Random, table: &mut Table) -> Option<Vec<u8>> {
     let mut block = block::write(table);
     let any = random.byte_between(65, 255);
     block[COUNT] = random.one_of(&[65, any, 128, 255]);
+    Some(block)
+}
+
+fn count_of_65(_: &mut Random, table: &mut Table) -> Option<Vec<u8>> {
+    if table.queue.len() < PLACES {
+        return None;
+    }
+    let mut block = block::write(table);
+    block[COUNT] = 65;
     Some(block)
 }
 
@@ -211,10 +247,12 @@ fn count_too_high(_: &mut Random, table: &mut Table) -> Option<Vec<u8>> {
 }
 
 fn above_share(random: &mut Random, table: &mut Table) -> Option<Vec<u8>> {
-    let at = any_entry(random, table)?;
-    let tenant = table.queue[at].tenant;
-    let places = held(table, tenant);
-    table.meters[usize::from(tenant) - 1].share = random.between(0, places - 1) as u8;
+    let holding = |seat: &usize| held(table, *seat as u8 + 1) > 0;
+    let holding: Vec<usize> = (0..TENANTS).filter(holding).collect();
+    let seat = outermost(random, &holding)?;
+    let places = held(table, seat as u8 + 1);
+    let any = random.below(places);
+    table.meters[seat].share = random.one_of(&[any, places - 1]) as u8;
     Some(block::write(table))
 }
 
@@ -437,28 +475,58 @@ fn no_counters(_: &mut Random, table: &mut Table) -> Option<Vec<u8>> {
     Some(block)
 }
 
-/// An entry that conflicts with one ahead of it.
-fn in_conflict(random: &mut Random, table: &Table) -> Option<usize> {
-    let queue = table.queue.iter().enumerate();
-    let found: Vec<usize> = queue
-        .filter(|(at, entry)| {
-            let mut ahead = table.queue[..*at].iter();
-            ahead.any(|other| entry.conflicts_with(other))
-        })
-        .map(|(at, _)| at)
-        .collect();
-    random.any_of(&found)
+/// An entry that conflicts with some ahead of it, and with none but such that
+/// `so` holds for the two.
+fn in_conflict(
+    random: &mut Random,
+    table: &Table,
+    so: fn(&Entry, &Entry) -> bool,
+) -> Option<usize> {
+    let mut found = Vec::new();
+    for (at, entry) in table.queue.iter().enumerate() {
+        let ahead = table.queue[..at].iter();
+        let mut clashes = ahead.filter(|other| entry.conflicts_with(other)).peekable();
+        if clashes.peek().is_some() && clashes.all(|other| so(entry, other)) {
+            found.push(at);
+        }
+    }
+    outermost(random, &found)
 }
 
-fn free_in_conflict(random: &mut Random, table: &mut Table) -> Option<Vec<u8>> {
-    let at = in_conflict(random, table)?;
+fn freed(table: &mut Table, at: usize) -> Option<Vec<u8>> {
     table.queue[at].state = State::Free;
     table.queue[at].due = 0;
     Some(block::write(table))
 }
 
+fn free_in_conflict(random: &mut Random, table: &mut Table) -> Option<Vec<u8>> {
+    let at = in_conflict(random, table, |_, _| true)?;
+    freed(table, at)
+}
+
+/// It writes nothing itself.
+fn reader_behind_a_writer(random: &mut Random, table: &mut Table) -> Option<Vec<u8>> {
+    let at = in_conflict(random, table, |entry, _| entry.request.writes.is_empty())?;
+    freed(table, at)
+}
+
+/// What is ahead of it writes nothing.
+fn writer_behind_a_reader(random: &mut Random, table: &mut Table) -> Option<Vec<u8>> {
+    let at = in_conflict(random, table, |_, ahead| ahead.request.writes.is_empty())?;
+    freed(table, at)
+}
+
+/// Neither reads anything.
+fn writer_behind_a_writer(random: &mut Random, table: &mut Table) -> Option<Vec<u8>> {
+    let only_write = |entry: &Entry, ahead: &Entry| {
+        entry.request.reads.is_empty() && ahead.request.reads.is_empty()
+    };
+    let at = in_conflict(random, table, only_write)?;
+    freed(table, at)
+}
+
 fn waiting_in_conflict(random: &mut Random, table: &mut Table) -> Option<Vec<u8>> {
-    let at = in_conflict(random, table)?;
+    let at = in_conflict(random, table, |_, _| true)?;
     let entry = &mut table.queue[at];
     entry.state = State::Waiting;
     entry.request.awaited = entry.request.awaited.max(1);

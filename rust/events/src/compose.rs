@@ -112,8 +112,12 @@ impl Style {
         if random.chance(self.whole) {
             return Lists::drawn(random, &self.pool, 8, 8);
         }
-        let reads = random.between(0, self.most_reads);
+        let mut reads = random.between(0, self.most_reads);
         let writes = random.between(0, self.most_writes);
+        // Entries without records are few.
+        if reads + writes == 0 && random.chance(75) {
+            reads = 1;
+        }
         Lists::drawn(random, &self.pool, reads, writes)
     }
 }
