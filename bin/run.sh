@@ -74,8 +74,8 @@ stop_proving() {
     prover=
 }
 
-# prove NAME LOG: `rt check NAME`, its status, and how far it is all the while. It has a process group of its own: what rt has
-# started does not end where rt alone is interrupted.
+# prove NAME LOG [COMMAND]: `rt check NAME`, or another command of rt that proves it, its status, and how far it is all the while.
+# It has a process group of its own: what rt has started does not end where rt alone is interrupted.
 prove() {
     local crates begun=() since=$SECONDS crate status=0
     mapfile -t crates < <(crates_of "$1")
@@ -83,7 +83,7 @@ prove() {
     prover=
     at_end stop_proving
     set -m
-    (cd "$root" && exec rt check "$1") </dev/null >"$2" 2>&1 3>&- &
+    (cd "$root" && exec rt "${3:-check}" "$1") </dev/null >"$2" 2>&1 3>&- &
     prover=$!
     set +m
     while kill -0 "$prover" 2>/dev/null; do

@@ -27,7 +27,7 @@ pub fn to_text(bytes: &[u8]) -> String {
     text
 }
 
-fn record_line(event: Event<'_>) -> String {
+pub(crate) fn record_line(event: Event<'_>) -> String {
     let call = event.call();
     match event {
         Event::Open { shares } => format!("{}{}", call, numbers(without_last_zeros(shares))),
@@ -61,7 +61,7 @@ fn parts(awaited: u8, reads: &[u8], writes: &[u8]) -> String {
     text
 }
 
-fn numbers(bytes: &[u8]) -> String {
+pub(crate) fn numbers(bytes: &[u8]) -> String {
     bytes.iter().map(|byte| format!(" {}", byte)).collect()
 }
 

@@ -2,14 +2,23 @@
 //!
 //! - `encode`: one record to bytes.
 //! - `text`: readable text to bytes; `back`: bytes to readable text.
+//! - `blocklines`: text that drives a block of Item 1, for whoever keeps one.
+//! - `blockkinds`: the kinds of generated block case, made of a sound state
+//!   (`compose`), a call that suits it (`aim`, `scenes`), and a clause of a sound
+//!   block broken by itself (`breaks`).
 //! - `kinds`: the kinds of generated file, and `long`: long files to measure
 //!   with. Each is made with `random` (the numbers) and `sheet` (the file so far
 //!   with the state it leads to).
 //! - `show`: a listing with the state after each call.
 //! - `program`: how the programs end.
 
+mod aim;
 pub mod back;
+pub mod blockkinds;
+pub mod blocklines;
 mod boundary;
+pub mod breaks;
+mod compose;
 mod damaged;
 pub mod encode;
 pub mod kinds;
@@ -18,6 +27,7 @@ pub mod long;
 pub mod program;
 pub mod random;
 mod refusals;
+pub mod scenes;
 mod sheet;
 pub mod show;
 pub mod text;

@@ -43,7 +43,7 @@ impl fmt::Display for WrongLine {
 }
 
 /// What some editors put before UTF-8 text.
-const BYTE_ORDER_MARK: &str = "\u{FEFF}";
+pub(crate) const BYTE_ORDER_MARK: &str = "\u{FEFF}";
 
 /// Whether an input is text, by how it begins: with a blank, a line end or
 /// another printable character of ASCII, or with the byte-order mark. Any other
@@ -92,24 +92,81 @@ fn within(most: usize, bytes: usize) -> Result<(), String> {
 
 /// A mark that the line begins with is no part of its words, but of its bytes.
 fn add_line(mark: &str, line: &[u8], out: &mut Vec<u8>) -> Result<(), String> {
-    let line = std::str::from_utf8(line).map_err(|error| {
-        let at = error.valid_up_to();
-        format!("byte {} (hex {:02x}) is not UTF-8 text", at + 1, line[at])
-    })?;
-    let line = line.strip_prefix(mark).unwrap_or(line);
-    let code = line.split('#').next().unwrap_or("");
-    let mut words = Words::of(code);
+    let mut words = Words::of(code(mark, line)?);
     match words.next() {
         Some(word) => add_record(word, words, out),
         None => Ok(()),
     }
 }
 
+/// A line without the mark that it may begin with and without its comment.
+pub(crate) fn code<'a>(mark: &str, line: &'a [u8]) -> Result<&'a str, String> {
+    let line = std::str::from_utf8(line).map_err(|error| {
+        let at = error.valid_up_to();
+        format!("byte {} (hex {:02x}) is not UTF-8 text", at + 1, line[at])
+    })?;
+    let line = line.strip_prefix(mark).unwrap_or(line);
+    Ok(line.split('#').next().unwrap_or(""))
+}
+
 fn add_record(word: &str, mut words: Words<'_>, out: &mut Vec<u8>) -> Result<(), String> {
+    if word == "raw" {
+        return add_raw(words, out);
+    }
+    match call(word, &mut words)? {
+        Some(call) => encode(call.event(), out),
+        None => Err(unknown(word, WORDS)),
+    }
+}
+
+pub(crate) fn unknown(word: &str, known: &str) -> String {
+    format!("unknown word \"{}\" (known: {})", shown(word), known)
+}
+
+/// A call as a line of text gives it, with lists of its own.
+#[derive(Clone, Debug, PartialEq, Eq)]
+pub enum Call {
+    Open {
+        shares: Vec<u8>,
+    },
+    Begin {
+        tenant: u8,
+        awaited: u8,
+        reads: Vec<u8>,
+        writes: Vec<u8>,
+    },
+    /// A call without lists.
+    Plain(Event<'static>),
+}
+
+impl Call {
+    /// The same with the lists lent.
+    pub fn event(&self) -> Event<'_> {
+        match self {
+            Call::Open { shares } => Event::Open { shares },
+            Call::Begin {
+                tenant,
+                awaited,
+                reads,
+                writes,
+            } => Event::Begin {
+                tenant: *tenant,
+                awaited: *awaited,
+                reads,
+                writes,
+            },
+            Call::Plain(event) => *event,
+        }
+    }
+}
+
+/// The call that begins with this word and has these words behind it, up to the
+/// end of the line; nothing if no call begins so. Its lists may be longer than
+/// those that a record of an event file holds.
+pub(crate) fn call(word: &str, words: &mut Words<'_>) -> Result<Option<Call>, String> {
     let event = match word {
-        "open" => return add_open(words, out),
-        "begin" => return add_begin(words, out),
-        "raw" => return add_raw(words, out),
+        "open" => return open(words).map(Some),
+        "begin" => return begin(words).map(Some),
         "grant" => Event::Grant {
             tenant: words.byte("tenant")?,
             amount: words.number("amount", u32::MAX)?,
@@ -130,19 +187,13 @@ fn add_record(word: &str, mut words: Words<'_>, out: &mut Vec<u8>) -> Result<(),
             tenant: words.byte("tenant")?,
             serial: words.serial()?,
         },
-        _ => {
-            return Err(format!(
-                "unknown word \"{}\" (known: {})",
-                shown(word),
-                WORDS
-            ))
-        }
+        _ => return Ok(None),
     };
     words.end()?;
-    encode(event, out)
+    Ok(Some(Call::Plain(event)))
 }
 
-fn add_open(mut words: Words<'_>, out: &mut Vec<u8>) -> Result<(), String> {
+fn open(words: &mut Words<'_>) -> Result<Call, String> {
     let mut shares = words.bytes("share", &[])?;
     if shares.len() > TENANTS {
         return Err(format!(
@@ -152,11 +203,11 @@ fn add_open(mut words: Words<'_>, out: &mut Vec<u8>) -> Result<(), String> {
         ));
     }
     shares.resize(TENANTS, 0);
-    encode(Event::Open { shares: &shares }, out)
+    Ok(Call::Open { shares })
 }
 
 /// The parts may come in any order, each at most once.
-fn add_begin(mut words: Words<'_>, out: &mut Vec<u8>) -> Result<(), String> {
+fn begin(words: &mut Words<'_>) -> Result<Call, String> {
     let tenant = words.byte("tenant")?;
     let (mut awaited, mut reads, mut writes) = (None, None, None);
     while let Some(part) = words.next() {
@@ -172,13 +223,12 @@ fn add_begin(mut words: Words<'_>, out: &mut Vec<u8>) -> Result<(), String> {
             }
         }
     }
-    let event = Event::Begin {
+    Ok(Call::Begin {
         tenant,
         awaited: awaited.unwrap_or(0),
-        reads: &reads.unwrap_or_default(),
-        writes: &writes.unwrap_or_default(),
-    };
-    encode(event, out)
+        reads: reads.unwrap_or_default(),
+        writes: writes.unwrap_or_default(),
+    })
 }
 
 fn set_once<T>(slot: &mut Option<T>, part: &str, value: T) -> Result<(), String> {
@@ -213,14 +263,14 @@ fn hex_byte(word: &str) -> Result<u8, String> {
 /// A word of the text as a message shows it. Bytes that were no text may have
 /// been read as such, so it is kept short, and what cannot be printed is
 /// written out.
-fn shown(word: &str) -> String {
+pub(crate) fn shown(word: &str) -> String {
     let start: String = word.chars().take(SHOWN).collect();
     let cut = if start.len() < word.len() { "..." } else { "" };
     format!("{}{}", start.escape_debug(), cut)
 }
 
 /// The words of a line, taken one after the other.
-struct Words<'a> {
+pub(crate) struct Words<'a> {
     words: std::iter::Peekable<std::str::SplitWhitespace<'a>>,
 }
 
@@ -233,10 +283,15 @@ impl<'a> Iterator for Words<'a> {
 }
 
 impl<'a> Words<'a> {
-    fn of(line: &'a str) -> Words<'a> {
+    pub(crate) fn of(line: &'a str) -> Words<'a> {
         Words {
             words: line.split_whitespace().peekable(),
         }
+    }
+
+    /// The next word, which stays.
+    pub(crate) fn peek(&mut self) -> Option<&'a str> {
+        self.words.peek().copied()
     }
 
     /// The next word as a number from 0 to `most`.
@@ -269,7 +324,7 @@ impl<'a> Words<'a> {
 
     /// The words up to the end of the line, or up to one of `stops`, as numbers
     /// from 0 to 255.
-    fn bytes(&mut self, field: &str, stops: &[&str]) -> Result<Vec<u8>, String> {
+    pub(crate) fn bytes(&mut self, field: &str, stops: &[&str]) -> Result<Vec<u8>, String> {
         let mut bytes = Vec::new();
         while let Some(word) = self.words.peek() {
             if stops.contains(word) {
@@ -289,7 +344,7 @@ impl<'a> Words<'a> {
         Ok(records)
     }
 
-    fn end(&mut self) -> Result<(), String> {
+    pub(crate) fn end(&mut self) -> Result<(), String> {
         match self.next() {
             Some(word) => Err(format!("\"{}\" is one word too many", shown(word))),
             None => Ok(()),

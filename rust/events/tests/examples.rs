@@ -12,11 +12,15 @@ fn folder() -> PathBuf {
     Path::new(env!("CARGO_MANIFEST_DIR")).join("../../examples")
 }
 
-/// All examples by name, also those that come later.
+/// All texts by name, also those that come later. Other files are programs that
+/// link the calls.
 fn examples() -> Vec<(String, String)> {
     let mut examples = Vec::new();
     for file in fs::read_dir(folder()).expect("there is a folder of examples") {
         let path = file.expect("a file").path();
+        if path.extension().map_or(true, |kind| kind != "txt") {
+            continue;
+        }
         let name = path.file_stem().expect("a name").to_string_lossy();
         let text = fs::read_to_string(&path).expect("a text");
         examples.push((name.into_owned(), text));

@@ -3,7 +3,8 @@
 use crate::request::State;
 use std::fmt;
 
-/// The numbers of document 01's table, "Numbers a caller may get back".
+/// The numbers of document 01's table, "Numbers a caller may get back", and 15
+/// of Item 1: "15 for a block not sound".
 #[derive(Clone, Copy, Debug, PartialEq, Eq)]
 pub enum Refusal {
     NoSuchTenant = 1,
@@ -20,6 +21,7 @@ pub enum Refusal {
     NothingDue = 12,
     TooMuchFuel = 13,
     BadShares = 14,
+    BlockNotSound = 15,
 }
 
 impl Refusal {

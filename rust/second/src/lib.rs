@@ -6,6 +6,7 @@
 //! page of scope and precise rules, which decides every rule here.
 
 pub mod answer;
+pub mod block;
 pub mod listing;
 pub mod price;
 pub mod reader;

@@ -23,7 +23,7 @@ pub fn look(n: u32) -> u32 {
 /// burns what its walk had burnt.
 pub fn refused(refusal: Refusal) -> u32 {
     match refusal {
-        Refusal::NoSuchTenant | Refusal::Dry => 0,
+        Refusal::NoSuchTenant | Refusal::Dry | Refusal::BlockNotSound => 0,
         _ => 1,
     }
 }

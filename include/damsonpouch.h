@@ -1,0 +1,118 @@
+/* The proved lock manager, for C and C++ on x86-64: link libdamsonpouch.a, which `rt staticlib damsonpouch` writes to
+ * target/staticlib. It needs nothing but the C library, and of that memcpy and its like.
+ *
+ * The host lends a block of DAMSONPOUCH_BLOCK_LENGTH bytes, which is the whole state: no call keeps anything elsewhere, so a
+ * block may be copied, stored, sent and lent again at any time between two calls. docs/HOST.md has its layout, docs/CALLS.md the
+ * calls, their prices and the order of their refusals.
+ *
+ * What a caller owes to every call:
+ *   - `block` is valid to read and write for `length` bytes, and nobody else uses those bytes while the call runs;
+ *   - a list is valid to read for its length, and lies outside the block. An empty list (a length of 0) may be NULL.
+ * Nothing else: a call takes any bytes in the block, any length of it, any numbers and any lists, ends, and answers. It allocates
+ * nothing, locks nothing and has no variable of its own, so two threads may make calls on two blocks at the same time. */
+
+#ifndef DAMSONPOUCH_H
+#define DAMSONPOUCH_H
+
+#include <stdbool.h>
+#include <stddef.h>
+#include <stdint.h>
+
+#ifdef __cplusplus
+extern "C" {
+#endif
+
+/* The bytes of a block. */
+#define DAMSONPOUCH_BLOCK_LENGTH 2176
+
+/* The number of tenants, and so of shares. */
+#define DAMSONPOUCH_TENANTS 16
+
+/* What a call hands back. A field that the kind has no use for is 0. */
+typedef struct damsonpouch_reply {
+    uint8_t kind;    /* DAMSONPOUCH_OK to DAMSONPOUCH_ENTRY */
+    uint8_t number;  /* of DAMSONPOUCH_REFUSED: which refusal, 1 to 15 */
+    uint8_t state;   /* of DAMSONPOUCH_ENTRY: the entry's state after the call */
+    uint8_t tenant;  /* of DAMSONPOUCH_ENTRY: its tenant, 1 to 16 */
+    uint16_t serial; /* of DAMSONPOUCH_ENTRY: its serial, 1 to 65,535 */
+    uint32_t burnt;  /* the units of fuel burnt, by a refused call too */
+} damsonpouch_reply;
+
+/* The kinds of a reply. */
+enum {
+    DAMSONPOUCH_OK = 0,      /* of Open and Grant */
+    DAMSONPOUCH_DONE = 1,    /* of Finish: the entry has left */
+    DAMSONPOUCH_STILL = 2,   /* of Recheck: the entry stays Blocked */
+    DAMSONPOUCH_NOTHING = 3, /* of Scan and Pick: no entry was promoted */
+    DAMSONPOUCH_REFUSED = 4, /* `number` says why */
+    DAMSONPOUCH_ENTRY = 5    /* an entry's state after the call, and its name: of Begin and Deliver, and of Recheck, Scan and
+                                Pick where they promote */
+};
+
+/* The states of an entry, in a reply and in the block. */
+enum {
+    DAMSONPOUCH_FREE = 0,    /* it runs, and may be finished */
+    DAMSONPOUCH_WAITING = 1, /* it holds its locks and waits for remote answers */
+    DAMSONPOUCH_BLOCKED = 2  /* it conflicts with an entry that was queued before it */
+};
+
+/* The refusals. But for 14, a refusal writes nothing to the block but the fuel that it burnt. */
+enum {
+    DAMSONPOUCH_NO_SUCH_TENANT = 1,   /* the tenant number is not 1 to 16; burns 0 */
+    DAMSONPOUCH_DRY = 2,              /* the tenant's fuel is 0; burns 0. Not given by Finish of a Free entry */
+    DAMSONPOUCH_TOO_MANY_RECORDS = 3, /* more than 8 reads or more than 8 writes; burns 1 */
+    DAMSONPOUCH_NOT_RISING = 4,       /* reads or writes do not strictly rise; burns 1 */
+    DAMSONPOUCH_IN_BOTH_LISTS = 5,    /* a record is in both lists; burns 1 */
+    DAMSONPOUCH_AWAITED_TOO_HIGH = 6, /* awaited is above 15; burns 1 */
+    DAMSONPOUCH_SHARE_HELD = 7,       /* the tenant already holds as many places as its share; burns 1 */
+    DAMSONPOUCH_SERIALS_GIVEN = 8,    /* the tenant has been given all 65,535 serials; burns 1 */
+    DAMSONPOUCH_FUEL_BELOW_PRICE = 9, /* the fuel is below the price; burns 1. A scan cut short: burns what it had burnt */
+    DAMSONPOUCH_NO_SUCH_ENTRY = 10,   /* the tenant has no such entry in the queue; burns 1, of Deliver 0 */
+    DAMSONPOUCH_WRONG_STATE = 11,     /* Finish of an entry not Free, Recheck of one not Blocked; burns 1 */
+    DAMSONPOUCH_NOTHING_DUE = 12,     /* Deliver with no answer due; burns 0 */
+    DAMSONPOUCH_TOO_MUCH_FUEL = 13,   /* with this Grant the fuel would pass 1,000,000,000; burns 0 */
+    DAMSONPOUCH_BAD_SHARES = 14,      /* Open without exactly 16 shares, or their sum is above 64; burns 0, and the block then
+                                         holds a fresh state with every share 0 */
+    DAMSONPOUCH_NOT_SOUND = 15        /* the block is not sound, or has not 2,176 bytes; of Open, only the latter. Burns 0. Given
+                                         before any other */
+};
+
+/* A host call: overwrites any block of the right length with a fresh state, in which tenant t has shares[t - 1] of the 64 queue
+ * places, no fuel, and no serial given. Refusals, in this order: 15 (for a wrong length alone), 14. */
+damsonpouch_reply damsonpouch_open(uint8_t *block, size_t length, const uint8_t *shares, size_t shares_length);
+
+/* A host call: adds fuel to a tenant's. Refusals: 15, 1, 13. */
+damsonpouch_reply damsonpouch_grant(uint8_t *block, size_t length, uint8_t tenant, uint32_t amount);
+
+/* A tenant's call: asks for all locks of a request at once, which joins the back of the queue; burns 2 + 2n for n records, reads
+ * and writes together. Answers with the new entry: Blocked if it conflicts with an entry ahead, else Waiting if `awaited` is
+ * above 0, and else Free. Refusals: 15, 1 to 9. */
+damsonpouch_reply damsonpouch_begin(uint8_t *block, size_t length, uint8_t tenant, uint8_t awaited, const uint8_t *reads,
+    size_t reads_length, const uint8_t *writes, size_t writes_length);
+
+/* A tenant's call: a Free entry leaves the queue; burns 0. Refusals: 15, 1; then a Free entry leaves; 2, 10, 11. */
+damsonpouch_reply damsonpouch_finish(uint8_t *block, size_t length, uint8_t tenant, uint16_t serial);
+
+/* A tenant's call: promotes a Blocked entry if no other entry conflicts with it, ahead or behind; burns 1 + n. Refusals: 15, 1,
+ * 2, 10, 11, 9. */
+damsonpouch_reply damsonpouch_recheck(uint8_t *block, size_t length, uint8_t tenant, uint16_t serial);
+
+/* A tenant's call: promotes the tenant's first Blocked entry that conflicts with none ahead; burns 1, and 1 + n for each entry
+ * that it looks at, 1,089 at most. Refusals: 15, 1, 2; then 9 on its way. */
+damsonpouch_reply damsonpouch_scan(uint8_t *block, size_t length, uint8_t tenant);
+
+/* A host call: promotes the front of the queue if it is Blocked. Refusals: 15. */
+damsonpouch_reply damsonpouch_pick(uint8_t *block, size_t length);
+
+/* A host call: one remote answer of an entry has come. A Waiting entry with none left due becomes Free; a Blocked one stays
+ * Blocked. Refusals: 15, 1, 10, 12. */
+damsonpouch_reply damsonpouch_deliver(uint8_t *block, size_t length, uint8_t tenant, uint16_t serial);
+
+/* Whether the block is sound, as every call but Open asks. It is only read. A host need not ask, since the calls do. */
+bool damsonpouch_sound(const uint8_t *block, size_t length);
+
+#ifdef __cplusplus
+}
+#endif
+
+#endif

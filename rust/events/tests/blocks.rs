@@ -1,0 +1,270 @@
+//! What must hold over generated block cases: what they reach, and that a
+//! block is what its maker says it is.
+
+use events::blockkinds::{
+    call_line, write_cases, BlockKind, Case, Cases, Made, BLOCK_KINDS, CASES,
+};
+use events::blocklines::{block_line, parse, Line};
+use events::breaks::BREAKS;
+use events::scenes::SCENES;
+use second::block::{self, Broken, BYTES, CLAUSES};
+use second::{Answer, Outcome, State};
+use std::collections::BTreeSet;
+
+const SEEDS: u64 = 20;
+
+/// Cases of every kind, from seeds 0 up to `SEEDS` - 1.
+fn batch() -> impl Iterator<Item = (String, Case)> {
+    BLOCK_KINDS.iter().flat_map(|&(name, kind)| {
+        (0..SEEDS).flat_map(move |seed| {
+            let cases = Cases::new(seed, kind).take(CASES).enumerate();
+            cases.map(move |(before, case)| {
+                let what = format!("{} {} case {}: {}", name, seed, before + 1, case.what);
+                (what, case)
+            })
+        })
+    })
+}
+
+/// The call made on the case's block, and the block that it leaves.
+fn made(case: &Case) -> (Outcome, Vec<u8>) {
+    let mut block = case.block.clone();
+    let outcome = block::call(&mut block, case.call.event());
+    (outcome, block)
+}
+
+#[test]
+fn a_block_is_what_its_maker_says() {
+    for (what, case) in batch() {
+        let read = block::read(&case.block).map_err(|broken| broken.clause());
+        match case.made {
+            Made::Sound => assert!(read.is_ok(), "{}: {:?}", what, read),
+            Made::Breaking(clause) => assert_eq!(read, Err(clause), "{}", what),
+            Made::Anyhow => {}
+        }
+        if let Ok(table) = read {
+            assert_eq!(block::write(&table), case.block, "{}", what);
+        }
+    }
+}
+
+/// A sound block stays sound; another is refused unchanged, but for Open.
+#[test]
+fn calls_keep_blocks_sound() {
+    for (what, case) in batch() {
+        let (outcome, after) = made(&case);
+        let opens = case.call.event().is_open();
+        let refused = outcome.answer.to_string() == "refused:15";
+        let called = if opens {
+            case.block.len() == BYTES
+        } else {
+            block::read(&case.block).is_ok()
+        };
+        assert_eq!(refused, !called, "{}", what);
+        if called {
+            assert!(block::read(&after).is_ok(), "{}", what);
+        } else {
+            assert_eq!((outcome.burnt, &after), (0, &case.block), "{}", what);
+        }
+    }
+}
+
+#[test]
+fn a_scene_meets_its_refusal() {
+    for (what, case) in batch() {
+        let number = match made(&case).0.answer {
+            Answer::Refused(refusal) => refusal.number(),
+            _ => 0,
+        };
+        if let Some(wanted) = case.refusal {
+            assert_eq!(number, wanted, "{}", what);
+        }
+    }
+}
+
+#[test]
+fn a_third_of_each_kind_is_sound() {
+    for (name, kind) in BLOCK_KINDS {
+        let cases = (0..SEEDS).flat_map(|seed| Cases::new(seed, kind).take(CASES));
+        let (mut sound, mut all) = (0, 0);
+        for case in cases {
+            sound += usize::from(block::read(&case.block).is_ok());
+            all += 1;
+        }
+        assert!(3 * sound >= all, "{}: {} of {}", name, sound, all);
+    }
+}
+
+/// Each answer of each call, each way to be unsound and each shape of a sound
+/// block.
+const WANTED: &str = "\
+    open ok, open refused:14, open refused:15,\
+    grant ok, grant refused:1, grant refused:13, grant refused:15,\
+    begin free, begin waiting, begin blocked, begin refused:1, begin refused:2,\
+    begin refused:3, begin refused:4, begin refused:5, begin refused:6, begin refused:7,\
+    begin refused:8, begin refused:9, begin refused:15,\
+    finish done, finish refused:1, finish refused:2, finish refused:10, finish refused:11,\
+    finish refused:15,\
+    recheck still, recheck free, recheck waiting, recheck refused:1, recheck refused:2,\
+    recheck refused:10, recheck refused:11, recheck refused:9, recheck refused:15,\
+    scan free, scan waiting, scan nothing, scan refused:1, scan refused:2, scan refused:9,\
+    scan refused:15,\
+    pick free, pick waiting, pick nothing, pick refused:15,\
+    deliver free, deliver waiting, deliver blocked, deliver refused:1, deliver refused:10,\
+    deliver refused:12, deliver refused:15,\
+    Length, Head, Unused, Shares, Fuel, Awaited, Count, Due, Tenant, AboveShare, Serial, State,\
+    FreeWithDue, WaitingForNothing, BlockedOnNothing, Lists 3, Lists 4, Lists 5, Counter Cx,\
+    Counter Cs, Conflict free, Conflict waiting,\
+    empty queue, queue of 64, queue of another length,\
+    free entry, waiting entry, blocked entry, waiting with nothing due,\
+    free after its answers, blocked with no conflict, entry of 0 records, entry of 16 records,\
+    eight readers of a record, serial 65535, hole in the serials, tenant at its share,\
+    share 0, fuel 0, fuel 1, fuel 1000000000";
+
+#[test]
+fn everything_is_reached_and_nothing_else() {
+    let mut seen = BTreeSet::new();
+    for (_, case) in batch() {
+        seen.insert(answered(&case));
+        match block::read(&case.block) {
+            Ok(table) => shapes(&table, &mut seen),
+            Err(broken) => {
+                seen.insert(breach(&broken));
+            }
+        }
+    }
+    let wanted: BTreeSet<String> = WANTED.split(',').map(|name| name.trim().into()).collect();
+    let missing: Vec<&String> = wanted.difference(&seen).collect();
+    assert!(missing.is_empty(), "never reached: {:?}", missing);
+    let strange: Vec<&String> = seen.difference(&wanted).collect();
+    assert!(strange.is_empty(), "not in the documents: {:?}", strange);
+}
+
+fn answered(case: &Case) -> String {
+    let (outcome, _) = made(case);
+    let answer = match outcome.answer {
+        Answer::Entry { state, .. } => String::from(state.word()),
+        answer => answer.to_string(),
+    };
+    format!("{} {}", case.call.event().call(), answer)
+}
+
+/// The name of the way in which a block is not sound.
+fn breach(broken: &Broken) -> String {
+    let name = format!("{:?}", broken);
+    let name = name.split_whitespace().next().unwrap_or("");
+    match broken {
+        Broken::Lists { refusal, .. } => format!("{} {}", name, refusal.number()),
+        Broken::Counter { field: 0x13, .. } => format!("{} Cx", name),
+        Broken::Counter { .. } => format!("{} Cs", name),
+        Broken::Conflict { state, .. } => format!("{} {}", name, state.word()),
+        _ => String::from(name),
+    }
+}
+
+fn shapes(table: &second::Table, seen: &mut BTreeSet<String>) {
+    let mut see = |shape: &str, there: bool| {
+        if there {
+            seen.insert(String::from(shape));
+        }
+    };
+    match table.queue.len() {
+        0 => see("empty queue", true),
+        64 => see("queue of 64", true),
+        _ => see("queue of another length", true),
+    }
+    for (at, entry) in table.queue.iter().enumerate() {
+        let (due, request) = (entry.due, &entry.request);
+        let mut ahead = table.queue[..at].iter();
+        let clear = !ahead.any(|other| other.conflicts_with(entry));
+        see(&format!("{} entry", entry.state.word()), true);
+        let waiting = entry.state == State::Waiting;
+        see("waiting with nothing due", waiting && due == 0);
+        let free = entry.state == State::Free;
+        see("free after its answers", free && request.awaited > 0);
+        let blocked = entry.state == State::Blocked;
+        see("blocked with no conflict", blocked && clear);
+        see("entry of 0 records", request.n() == 0);
+        see("entry of 16 records", request.n() == 16);
+        see("serial 65535", entry.serial == u16::MAX);
+        for record in &request.reads {
+            let queue = table.queue.iter();
+            let readers = queue.filter(|other| other.request.reads.contains(record));
+            see("eight readers of a record", readers.count() >= 8);
+        }
+    }
+    for (tenant, meter) in (1..).zip(&table.meters) {
+        let queue = table.queue.iter();
+        let held = queue.filter(|entry| entry.tenant == tenant).count();
+        see(
+            "tenant at its share",
+            held > 0 && held == usize::from(meter.share),
+        );
+        see(
+            "hole in the serials",
+            held > 0 && held < usize::from(meter.serials),
+        );
+        see("share 0", meter.share == 0);
+        for fuel in [0, 1, 1_000_000_000] {
+            see(&format!("fuel {}", fuel), meter.fuel == fuel);
+        }
+    }
+}
+
+/// Each way to break a clause, and each scene, comes in every few files.
+#[test]
+fn breaks_and_scenes_come_in_turn() {
+    let whats = |kind| -> BTreeSet<String> {
+        let cases = (5..7).flat_map(move |seed| Cases::new(seed, kind).take(CASES));
+        cases.map(|case| case.what).collect()
+    };
+    let broken = whats(BlockKind::Broken);
+    for (clause, what, _) in BREAKS {
+        assert!(broken.contains(what), "{}", what);
+        assert!((1..=CLAUSES.len()).contains(&clause));
+    }
+    let scenes = whats(BlockKind::Refusals);
+    for (_, what, _) in SCENES {
+        assert!(scenes.contains(what), "{}", what);
+    }
+}
+
+/// 32 seeds of the kind `bytes` change each byte of a full block.
+#[test]
+fn every_byte_is_changed() {
+    let cases = (0..32).flat_map(|seed| Cases::new(seed, BlockKind::Bytes).take(CASES));
+    let whats: BTreeSet<String> = cases.map(|case| case.what).collect();
+    for at in 0..BYTES {
+        assert!(whats.contains(&format!("byte {} changed", at)), "{}", at);
+    }
+}
+
+#[test]
+fn the_text_gives_the_case_again() {
+    for (what, case) in batch() {
+        let line = parse("", block_line(&case.block).as_bytes());
+        assert_eq!(line, Ok(Some(Line::Block(case.block))), "{}", what);
+        let line = parse("", call_line(&case.call).as_bytes());
+        match line {
+            Ok(Some(Line::Call(call))) => assert_eq!(call.event(), case.call.event(), "{}", what),
+            other => panic!("{}: {:?}", what, other),
+        }
+    }
+}
+
+#[test]
+fn a_seed_and_a_kind_give_the_same_text() {
+    let text = |seed, kind, count| {
+        let mut out = Vec::new();
+        write_cases(seed, kind, count, &mut out).expect("a list takes it");
+        out
+    };
+    for (name, kind) in BLOCK_KINDS {
+        let file = text(7, kind, 20);
+        assert_eq!(file, text(7, kind, 20), "{}", name);
+        assert_ne!(file, text(8, kind, 20), "{}", name);
+        assert!(file.starts_with(&text(7, kind, 5)), "{}", name);
+        let lines = file.split(|&byte| byte == b'\n').count();
+        assert_eq!(lines, 20 * 4 + 1, "{}", name);
+    }
+}

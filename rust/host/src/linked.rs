@@ -1,0 +1,126 @@
+//! The functions of `libdamsonpouch.a`, as the archive has them, and safe
+//! functions over them. No other file declares one of them or has `unsafe`.
+//!
+//! Nothing compares these lines with the source that was proved; the tests give
+//! every call, every answer and every refusal through them.
+
+/// What a call hands back. `include/damsonpouch.h` has the same for C.
+#[repr(C)]
+#[derive(Clone, Copy, Debug)]
+pub(crate) struct Reply {
+    pub kind: u8,
+    pub number: u8,
+    pub state: u8,
+    pub tenant: u8,
+    pub serial: u16,
+    pub burnt: u32,
+}
+
+/// As the C side has it: four bytes, a number in two, two that are not used, a
+/// number in four.
+const _: () = assert!(std::mem::size_of::<Reply>() == 12 && std::mem::align_of::<Reply>() == 4);
+
+extern "C" {
+    fn damsonpouch_open(
+        block: *mut u8,
+        length: usize,
+        shares: *const u8,
+        shares_length: usize,
+    ) -> Reply;
+    fn damsonpouch_grant(block: *mut u8, length: usize, tenant: u8, amount: u32) -> Reply;
+    fn damsonpouch_begin(
+        block: *mut u8,
+        length: usize,
+        tenant: u8,
+        awaited: u8,
+        reads: *const u8,
+        reads_length: usize,
+        writes: *const u8,
+        writes_length: usize,
+    ) -> Reply;
+    fn damsonpouch_finish(block: *mut u8, length: usize, tenant: u8, serial: u16) -> Reply;
+    fn damsonpouch_recheck(block: *mut u8, length: usize, tenant: u8, serial: u16) -> Reply;
+    fn damsonpouch_scan(block: *mut u8, length: usize, tenant: u8) -> Reply;
+    fn damsonpouch_pick(block: *mut u8, length: usize) -> Reply;
+    fn damsonpouch_deliver(block: *mut u8, length: usize, tenant: u8, serial: u16) -> Reply;
+    fn damsonpouch_sound(block: *const u8, length: usize) -> bool;
+}
+
+// What every call below rests on: it asks for a block that is valid to read and
+// write for `length` bytes and that nobody else uses while the call runs, and
+// for lists that are valid to read and lie outside the block. It keeps no
+// pointer. It takes any bytes, any length, 0 among them, and any numbers: its
+// contract has no other premise, and it is proved to end.
+
+pub(crate) fn open(block: &mut [u8], shares: &[u8]) -> Reply {
+    // SAFETY: both pointers come from slices with these lengths; the block's is
+    // exclusive, so the shares lie outside it.
+    unsafe {
+        damsonpouch_open(
+            block.as_mut_ptr(),
+            block.len(),
+            shares.as_ptr(),
+            shares.len(),
+        )
+    }
+}
+
+pub(crate) fn grant(block: &mut [u8], tenant: u8, amount: u32) -> Reply {
+    // SAFETY: pointer and length come from one exclusive slice.
+    unsafe { damsonpouch_grant(block.as_mut_ptr(), block.len(), tenant, amount) }
+}
+
+pub(crate) fn begin(
+    block: &mut [u8],
+    tenant: u8,
+    awaited: u8,
+    reads: &[u8],
+    writes: &[u8],
+) -> Reply {
+    // SAFETY: the pointers come from slices with these lengths; the block's is
+    // exclusive, so both lists lie outside it. The lists are only read, so they
+    // may overlap each other.
+    unsafe {
+        damsonpouch_begin(
+            block.as_mut_ptr(),
+            block.len(),
+            tenant,
+            awaited,
+            reads.as_ptr(),
+            reads.len(),
+            writes.as_ptr(),
+            writes.len(),
+        )
+    }
+}
+
+pub(crate) fn finish(block: &mut [u8], tenant: u8, serial: u16) -> Reply {
+    // SAFETY: pointer and length come from one exclusive slice.
+    unsafe { damsonpouch_finish(block.as_mut_ptr(), block.len(), tenant, serial) }
+}
+
+pub(crate) fn recheck(block: &mut [u8], tenant: u8, serial: u16) -> Reply {
+    // SAFETY: pointer and length come from one exclusive slice.
+    unsafe { damsonpouch_recheck(block.as_mut_ptr(), block.len(), tenant, serial) }
+}
+
+pub(crate) fn scan(block: &mut [u8], tenant: u8) -> Reply {
+    // SAFETY: pointer and length come from one exclusive slice.
+    unsafe { damsonpouch_scan(block.as_mut_ptr(), block.len(), tenant) }
+}
+
+pub(crate) fn pick(block: &mut [u8]) -> Reply {
+    // SAFETY: pointer and length come from one exclusive slice.
+    unsafe { damsonpouch_pick(block.as_mut_ptr(), block.len()) }
+}
+
+pub(crate) fn deliver(block: &mut [u8], tenant: u8, serial: u16) -> Reply {
+    // SAFETY: pointer and length come from one exclusive slice.
+    unsafe { damsonpouch_deliver(block.as_mut_ptr(), block.len(), tenant, serial) }
+}
+
+pub(crate) fn sound(block: &[u8]) -> bool {
+    // SAFETY: pointer and length come from one slice, which is only read. The
+    // function gives 0 or 1.
+    unsafe { damsonpouch_sound(block.as_ptr(), block.len()) }
+}

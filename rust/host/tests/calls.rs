@@ -1,0 +1,392 @@
+//! Every call and every answer, with the block's bytes after it, worked out by
+//! hand from document 01.
+
+mod common;
+
+use common::{base, entry, gives, Call, Picture, BLOCKED, FREE, WAITING};
+use damsonpouch::{Answer, Locks, Name, Outcome, Refusal, State, BLOCK_LENGTH, TENANTS};
+
+#[test]
+fn open_makes_a_fresh_state_of_any_bytes() {
+    let shares = [2, 2, 0, 0, 0, 0, 0, 0, 0, 0, 0, 0, 0, 0, 0, 0];
+    let fresh = Picture::fresh(&[2, 2]).bytes();
+    let noise: Vec<u8> = (0..BLOCK_LENGTH).map(|at| (at * 7 + 3) as u8).collect();
+    for before in [
+        vec![0; BLOCK_LENGTH],
+        vec![0xff; BLOCK_LENGTH],
+        noise,
+        base().bytes(),
+    ] {
+        gives(&before, |locks| locks.open(&shares), "ok 0", &fresh);
+    }
+    // 64 places in all
+    gives(
+        &base().bytes(),
+        |locks| locks.open(&[4; TENANTS]),
+        "ok 0",
+        &Picture::fresh(&[4; 16]).bytes(),
+    );
+}
+
+#[test]
+fn grant_adds_fuel() {
+    let before = base().bytes();
+    gives(
+        &before,
+        |locks| locks.grant(1, 5),
+        "ok 0",
+        &base().fuel(1, 45).bytes(),
+    );
+    gives(&before, |locks| locks.grant(1, 0), "ok 0", &before);
+    gives(
+        &before,
+        |locks| locks.grant(16, 1_000_000_000),
+        "ok 0",
+        &base().fuel(16, 1_000_000_000).bytes(),
+    );
+    // up to the limit and not past it
+    gives(
+        &before,
+        |locks| locks.grant(1, 999_999_960),
+        "ok 0",
+        &base().fuel(1, 1_000_000_000).bytes(),
+    );
+}
+
+#[test]
+fn begin_admits_free_waiting_or_blocked() {
+    let before = base().bytes();
+    // a second reader of 20 conflicts with nobody
+    gives(
+        &before,
+        |locks| locks.begin(1, 0, &[20], &[30]),
+        "free:1.3 6",
+        &base()
+            .fuel(1, 34)
+            .serials(1, 3)
+            .with(entry(1, 3, FREE, &[20], &[30]))
+            .bytes(),
+    );
+    gives(
+        &before,
+        |locks| locks.begin(1, 15, &[], &[40]),
+        "waiting:1.3 4",
+        &base()
+            .fuel(1, 36)
+            .serials(1, 3)
+            .with(entry(1, 3, WAITING, &[], &[40]).awaits(15, 15))
+            .bytes(),
+    );
+    // 12 is written by 2.1, which is Blocked itself
+    gives(
+        &before,
+        |locks| locks.begin(1, 2, &[12, 255], &[]),
+        "blocked:1.3 6",
+        &base()
+            .fuel(1, 34)
+            .serials(1, 3)
+            .with(entry(1, 3, BLOCKED, &[12, 255], &[]).awaits(2, 2))
+            .bytes(),
+    );
+    // both lists empty: price 2
+    gives(
+        &before,
+        |locks| locks.begin(1, 0, &[], &[]),
+        "free:1.3 2",
+        &base()
+            .fuel(1, 38)
+            .serials(1, 3)
+            .with(entry(1, 3, FREE, &[], &[]))
+            .bytes(),
+    );
+    // eight of each: price 34
+    let reads = [0, 1, 2, 3, 4, 6, 7, 8];
+    let writes = [100, 101, 102, 103, 104, 105, 106, 255];
+    gives(
+        &before,
+        |locks| locks.begin(1, 0, &reads, &writes),
+        "free:1.3 34",
+        &base()
+            .fuel(1, 6)
+            .serials(1, 3)
+            .with(entry(1, 3, FREE, &reads, &writes))
+            .bytes(),
+    );
+}
+
+#[test]
+fn begin_spends_the_last_unit_and_the_last_serial() {
+    let before = Picture::fresh(&[1]).fuel(1, 4).serials(1, 65_534).bytes();
+    let after = Picture::fresh(&[1])
+        .fuel(1, 0)
+        .serials(1, 65_535)
+        .with(entry(1, 65_535, FREE, &[], &[7]));
+    gives(
+        &before,
+        |locks| locks.begin(1, 0, &[], &[7]),
+        "free:1.65535 4",
+        &after.bytes(),
+    );
+    // a dry tank can let go
+    gives(
+        &after.bytes(),
+        |locks| locks.finish(1, 65_535),
+        "done 0",
+        &after.clone().without(0).bytes(),
+    );
+}
+
+#[test]
+fn finish_shifts_the_others_down() {
+    gives(
+        &base().bytes(),
+        |locks| locks.finish(1, 1),
+        "done 0",
+        &base().without(0).bytes(),
+    );
+}
+
+#[test]
+fn recheck_says_still_or_promotes() {
+    gives(
+        &base().bytes(),
+        |locks| locks.recheck(2, 1),
+        "still 4",
+        &base().fuel(2, 26).bytes(),
+    );
+    let alone = base().without(0);
+    let mut after = alone.clone().fuel(2, 26);
+    after.queue[1].state = FREE;
+    gives(
+        &alone.bytes(),
+        |locks| locks.recheck(2, 1),
+        "free:2.1 4",
+        &after.bytes(),
+    );
+    // an entry behind counts too, and one that was begun with awaited answers
+    // waits
+    let mut behind = Picture::fresh(&[2])
+        .fuel(1, 9)
+        .serials(1, 2)
+        .with(entry(1, 1, BLOCKED, &[], &[3]).awaits(1, 1))
+        .with(entry(1, 2, BLOCKED, &[3], &[]));
+    gives(
+        &behind.bytes(),
+        |locks| locks.recheck(1, 1),
+        "still 2",
+        &behind.clone().fuel(1, 7).bytes(),
+    );
+    behind.queue.pop();
+    let mut after = behind.clone().fuel(1, 7);
+    after.queue[0].state = WAITING;
+    gives(
+        &behind.bytes(),
+        |locks| locks.recheck(1, 1),
+        "waiting:1.1 2",
+        &after.bytes(),
+    );
+}
+
+#[test]
+fn scan_promotes_or_finds_nothing() {
+    // 1, and 2 for 1.1, 2 for 1.2, 4 for 2.1
+    gives(
+        &base().bytes(),
+        |locks| locks.scan(2),
+        "nothing 9",
+        &base().fuel(2, 21).bytes(),
+    );
+    // 1, and 2 for 1.2, 4 for 2.1
+    let alone = base().without(0);
+    let mut after = alone.clone().fuel(2, 23);
+    after.queue[1].state = FREE;
+    gives(
+        &alone.bytes(),
+        |locks| locks.scan(2),
+        "free:2.1 7",
+        &after.bytes(),
+    );
+    // another tenant's entry is not taken, and the whole queue is paid for
+    gives(
+        &alone.bytes(),
+        |locks| locks.scan(1),
+        "nothing 7",
+        &alone.clone().fuel(1, 33).bytes(),
+    );
+    let empty = Picture::fresh(&[1]).fuel(1, 1);
+    gives(
+        &empty.bytes(),
+        |locks| locks.scan(1),
+        "nothing 1",
+        &empty.clone().fuel(1, 0).bytes(),
+    );
+}
+
+#[test]
+fn pick_promotes_a_blocked_front() {
+    let before = base().bytes();
+    gives(&before, |locks| locks.pick(), "nothing 0", &before);
+    let empty = Picture::fresh(&[]).bytes();
+    gives(&empty, |locks| locks.pick(), "nothing 0", &empty);
+
+    let front = base().without(0).without(0);
+    let mut after = front.clone();
+    after.queue[0].state = FREE;
+    gives(
+        &front.bytes(),
+        |locks| locks.pick(),
+        "free:2.1 0",
+        &after.bytes(),
+    );
+    // document 01's rule of promotion goes by the awaited answers, not by those
+    // due
+    let mut front = front;
+    front.queue[0] = front.queue[0].clone().awaits(2, 0);
+    let mut after = front.clone();
+    after.queue[0].state = WAITING;
+    gives(
+        &front.bytes(),
+        |locks| locks.pick(),
+        "waiting:2.1 0",
+        &after.bytes(),
+    );
+}
+
+#[test]
+fn deliver_takes_an_answer() {
+    let mut after = base();
+    after.queue[1] = entry(1, 2, FREE, &[20], &[]).awaits(2, 0);
+    gives(
+        &base().bytes(),
+        |locks| locks.deliver(1, 2),
+        "free:1.2 0",
+        &after.bytes(),
+    );
+    let mut before = base();
+    before.queue[1] = before.queue[1].clone().awaits(2, 2);
+    gives(
+        &before.bytes(),
+        |locks| locks.deliver(1, 2),
+        "waiting:1.2 0",
+        &base().bytes(),
+    );
+    // a Blocked one stays so, with its last answer too
+    let mut before = base();
+    before.queue[2] = before.queue[2].clone().awaits(1, 1);
+    let mut after = base();
+    after.queue[2] = after.queue[2].clone().awaits(1, 0);
+    gives(
+        &before.bytes(),
+        |locks| locks.deliver(2, 1),
+        "blocked:2.1 0",
+        &after.bytes(),
+    );
+}
+
+#[test]
+fn the_documents_listing() {
+    let mut block = vec![0; BLOCK_LENGTH];
+    let mut locks = Locks::over(&mut block);
+    let calls: [(Call, &str); 12] = [
+        (
+            |locks| locks.open(&[2, 2, 0, 0, 0, 0, 0, 0, 0, 0, 0, 0, 0, 0, 0, 0]),
+            "ok 0",
+        ),
+        (|locks| locks.grant(1, 40), "ok 0"),
+        (|locks| locks.grant(2, 40), "ok 0"),
+        (|locks| locks.begin(1, 0, &[], &[10]), "free:1.1 4"),
+        (|locks| locks.begin(1, 0, &[], &[11]), "free:1.2 4"),
+        (|locks| locks.begin(2, 0, &[], &[10, 12]), "blocked:2.1 6"),
+        (|locks| locks.begin(2, 0, &[], &[12]), "blocked:2.2 4"),
+        (|locks| locks.finish(1, 1), "done 0"),
+        (|locks| locks.recheck(2, 1), "still 3"),
+        (|locks| locks.scan(2), "free:2.1 6"),
+        (|locks| locks.pick(), "nothing 0"),
+        (|locks| locks.finish(2, 2), "refused:11 1"),
+    ];
+    for (line, (call, said)) in calls.iter().enumerate() {
+        assert_eq!(call(&mut locks).to_string(), *said, "line {}", line + 1);
+        assert!(locks.is_sound(), "line {}", line + 1);
+    }
+    let after = Picture::fresh(&[2, 2])
+        .fuel(1, 32)
+        .fuel(2, 20)
+        .serials(1, 2)
+        .serials(2, 2)
+        .with(entry(1, 2, FREE, &[], &[11]))
+        .with(entry(2, 1, FREE, &[], &[10, 12]))
+        .with(entry(2, 2, BLOCKED, &[], &[12]));
+    assert_eq!(locks.block(), after.bytes());
+}
+
+#[test]
+fn answers_are_what_they_say() {
+    let mut block = base().bytes();
+    let mut locks = Locks::over(&mut block);
+    let told = |answer| Outcome { answer, burnt: 0 };
+    assert_eq!(locks.grant(1, 0), told(Ok(Answer::Ok)));
+    assert_eq!(locks.pick(), told(Ok(Answer::Nothing)));
+    assert_eq!(locks.finish(1, 1), told(Ok(Answer::Done)));
+    assert_eq!(locks.deliver(2, 1), told(Err(Refusal::NothingDue)));
+    let delivered = Answer::Entry {
+        state: State::Free,
+        tenant: 1,
+        serial: 2,
+    };
+    assert_eq!(locks.deliver(1, 2), told(Ok(delivered)));
+    assert_eq!(delivered.state(), Some(State::Free));
+    let name = Name {
+        tenant: 1,
+        serial: 2,
+    };
+    assert_eq!(delivered.name(), Some(name));
+    assert_eq!(name.to_string(), "1.2");
+    assert_eq!((Answer::Still.state(), Answer::Still.name()), (None, None));
+    assert_eq!(Answer::Still.to_string(), "still");
+}
+
+/// A block is the whole state: a copy of it, lent from elsewhere, goes on where
+/// the other stood.
+#[test]
+fn a_copy_goes_on() {
+    let mut first = base().bytes();
+    assert!(Locks::over(&mut first)
+        .begin(1, 0, &[], &[99])
+        .answer
+        .is_ok());
+    let mut copy = [vec![0xee; 5], first.clone(), vec![0xee; 5]].concat();
+    let mut again = Locks::over(&mut first);
+    let answers = (again.finish(1, 3), again.scan(2));
+    let mut other = Locks::over(&mut copy[5..5 + BLOCK_LENGTH]);
+    assert_eq!((other.finish(1, 3), other.scan(2)), answers);
+    assert_eq!(copy[5..5 + BLOCK_LENGTH], first[..]);
+    assert_eq!(copy[..5], [0xee; 5]);
+    assert_eq!(copy[5 + BLOCK_LENGTH..], [0xee; 5]);
+}
+
+/// The calls share nothing: threads with a block each do not meet.
+#[test]
+fn threads_with_a_block_each() {
+    let run = |tenant: u8| {
+        let mut block = vec![0; BLOCK_LENGTH];
+        let mut locks = Locks::over(&mut block);
+        let mut told = vec![locks.open(&[4; TENANTS]), locks.grant(tenant, 1_000_000)];
+        for turn in 1..=2_000 {
+            told.push(locks.begin(tenant, 0, &[tenant], &[100, 200]));
+            told.push(locks.begin(tenant, 1, &[200], &[]));
+            told.push(locks.finish(tenant, 2 * turn - 1));
+            told.push(locks.scan(tenant));
+            told.push(locks.deliver(tenant, 2 * turn));
+            told.push(locks.finish(tenant, 2 * turn));
+        }
+        (told, block)
+    };
+    let threads: Vec<_> = (1..=4)
+        .map(|tenant| std::thread::spawn(move || run(tenant)))
+        .collect();
+    for (tenant, thread) in (1..).zip(threads) {
+        let (told, block) = thread.join().expect("a thread ended");
+        assert!(told.iter().all(|outcome| outcome.answer.is_ok()));
+        assert_eq!((told, block), run(tenant));
+    }
+}

@@ -1,0 +1,491 @@
+/* Every call, every kind of answer and every refusal through include/damsonpouch.h, with each field of the reply and the block's
+ * bytes after it. What is due is worked out by hand from documents 01 and 02; the blocks are composed byte by byte.
+ * bin/test-host builds and runs this. */
+#include "damsonpouch.h"
+
+#include <stdarg.h>
+#include <stdio.h>
+#include <stdlib.h>
+#include <string.h>
+
+#define LENGTH DAMSONPOUCH_BLOCK_LENGTH
+#define FREE DAMSONPOUCH_FREE
+#define WAITING DAMSONPOUCH_WAITING
+#define BLOCKED DAMSONPOUCH_BLOCKED
+
+_Static_assert(sizeof(damsonpouch_reply) == 12, "the reply has 12 bytes");
+_Static_assert(offsetof(damsonpouch_reply, serial) == 4 && offsetof(damsonpouch_reply, burnt) == 8, "where its numbers stand");
+
+static int checks, wrong;
+
+/* ---- blocks, composed */
+
+static uint8_t now[LENGTH], due[LENGTH];
+
+static void put16(uint8_t *at, unsigned number) {
+    at[0] = (uint8_t)(number >> 8);
+    at[1] = (uint8_t)number;
+}
+
+static void fuel(uint8_t *block, int tenant, uint32_t units) {
+    put16(block + 22 + 6 * (tenant - 1), units >> 16);
+    put16(block + 24 + 6 * (tenant - 1), units & 0xffff);
+}
+
+static void serials(uint8_t *block, int tenant, unsigned given) { put16(block + 26 + 6 * (tenant - 1), given); }
+
+/* A fresh state in which the first tenants have these shares; the others have none. */
+static void fresh(uint8_t *block, const char *shares) {
+    memset(block, 0, LENGTH);
+    memcpy(block, "\x11\x00\x10", 3);
+    memcpy(block + 19, "\x12\x00\x60", 3);
+    memcpy(block + 118, "\x13\x01\x00", 3);
+    memcpy(block + 377, "\x14\x01\x00", 3);
+    memcpy(block + 636, "\x15\x06\x01", 3);
+    for (size_t k = 0; shares[k] != 0; k++)
+        block[3 + k] = (uint8_t)(shares[k] - '0');
+}
+
+/* One more entry at the back. No record of a list is 0 here. */
+static void entry(uint8_t *block, int tenant, unsigned serial, int state, int awaited, int still_due, const char *reads,
+    const char *writes) {
+    uint8_t *at = block + 640 + 24 * block[639]++;
+    size_t r = strlen(reads), w = strlen(writes), k;
+    at[0] = (uint8_t)tenant;
+    put16(at + 1, serial);
+    at[3] = (uint8_t)state;
+    at[4] = (uint8_t)awaited;
+    at[5] = (uint8_t)still_due;
+    at[6] = (uint8_t)r;
+    at[7] = (uint8_t)w;
+    memcpy(at + 8, reads, r);
+    memcpy(at + 8 + r, writes, w);
+    for (k = 0; k < r; k++)
+        block[380 + (uint8_t)reads[k]]++;
+    for (k = 0; k < w; k++)
+        block[121 + (uint8_t)writes[k]]++;
+}
+
+/* Tenant 1 runs 1.1 and waits with 1.2, which the second of two answers is due to; 2.1 is blocked behind 1.1. Tenant 2 holds its
+ * one place; tenant 3 has places and no fuel. */
+static void base(uint8_t *block) {
+    fresh(block, "312");
+    fuel(block, 1, 40);
+    fuel(block, 2, 30);
+    serials(block, 1, 2);
+    serials(block, 2, 1);
+    entry(block, 1, 1, FREE, 0, 0, "", "\x0a");
+    entry(block, 1, 2, WAITING, 2, 1, "\x14", "");
+    entry(block, 2, 1, BLOCKED, 0, 0, "\x05", "\x0a\x0c");
+}
+
+/* Both blocks as the base. A test changes `now`, calls on it, and says in `due` what it shall then be. */
+static void start(void) {
+    base(now);
+    base(due);
+}
+
+/* ---- what is checked */
+
+static void tell(int line, const char *form, ...) {
+    va_list words;
+    va_start(words, form);
+    fprintf(stderr, "calls.c:%d: ", line);
+    vfprintf(stderr, form, words);
+    fprintf(stderr, "\n");
+    va_end(words);
+    wrong++;
+}
+
+static void same_reply(int line, damsonpouch_reply got, int kind, int number, int state, int tenant, unsigned serial,
+    uint32_t burnt) {
+    checks++;
+    if (got.kind != kind || got.number != number || got.state != state || got.tenant != tenant || got.serial != serial ||
+        got.burnt != burnt)
+        tell(line, "the reply is %d %d %d %d %d %lu, due is %d %d %d %d %u %lu", got.kind, got.number, got.state, got.tenant,
+            got.serial, (unsigned long)got.burnt, kind, number, state, tenant, serial, (unsigned long)burnt);
+}
+
+/* `now` is `due`. */
+static void same_block(int line) {
+    for (size_t at = 0; at < LENGTH; at++)
+        if (now[at] != due[at]) {
+            tell(line, "byte %lu of the block is %d, due is %d", (unsigned long)at, now[at], due[at]);
+            return;
+        }
+}
+
+#define PLAIN(call, kind) (same_reply(__LINE__, call, kind, 0, 0, 0, 0, 0), same_block(__LINE__))
+#define BURNS(call, kind, burnt) (same_reply(__LINE__, call, kind, 0, 0, 0, 0, burnt), same_block(__LINE__))
+#define NAMES(call, state, tenant, serial, burnt)                                                                               \
+    (same_reply(__LINE__, call, DAMSONPOUCH_ENTRY, 0, state, tenant, serial, burnt), same_block(__LINE__))
+#define REFUSES(call, number, burnt)                                                                                            \
+    (same_reply(__LINE__, call, DAMSONPOUCH_REFUSED, number, 0, 0, 0, burnt), same_block(__LINE__))
+#define SOUND(verdict)                                                                                                          \
+    do {                                                                                                                        \
+        checks++;                                                                                                               \
+        if (damsonpouch_sound(now, LENGTH) != (verdict))                                                                        \
+            tell(__LINE__, "the block is %s", (verdict) ? "not sound" : "sound");                                               \
+    } while (0)
+
+/* The calls on `now`. */
+#define OPEN(shares, count) damsonpouch_open(now, LENGTH, shares, count)
+#define GRANT(tenant, amount) damsonpouch_grant(now, LENGTH, tenant, amount)
+#define BEGIN(tenant, awaited, reads, r, writes, w)                                                                             \
+    damsonpouch_begin(now, LENGTH, tenant, awaited, (const uint8_t *)(reads), r, (const uint8_t *)(writes), w)
+#define FINISH(tenant, serial) damsonpouch_finish(now, LENGTH, tenant, serial)
+#define RECHECK(tenant, serial) damsonpouch_recheck(now, LENGTH, tenant, serial)
+#define SCAN(tenant) damsonpouch_scan(now, LENGTH, tenant)
+#define PICK() damsonpouch_pick(now, LENGTH)
+#define DELIVER(tenant, serial) damsonpouch_deliver(now, LENGTH, tenant, serial)
+
+static const uint8_t two_two[16] = {2, 2};
+static const uint8_t fours[17] = {4, 4, 4, 4, 4, 4, 4, 4, 4, 4, 4, 4, 4, 4, 4, 4, 0};
+static const uint8_t sixty_five[16] = {4, 4, 4, 4, 4, 4, 4, 4, 4, 4, 4, 4, 4, 4, 4, 5};
+static uint8_t long_list[300];
+
+/* ---- the calls and their answers */
+
+static void opens(void) {
+    fresh(due, "22");
+    memset(now, 0xff, LENGTH);
+    PLAIN(OPEN(two_two, 16), DAMSONPOUCH_OK);
+    SOUND(true);
+    memset(now, 0, LENGTH);
+    SOUND(false);
+    PLAIN(OPEN(two_two, 16), DAMSONPOUCH_OK);
+    base(now);
+    PLAIN(OPEN(two_two, 16), DAMSONPOUCH_OK);
+    fresh(due, "4444444444444444");
+    PLAIN(OPEN(fours, 16), DAMSONPOUCH_OK);
+}
+
+static void grants(void) {
+    start();
+    fuel(due, 1, 45);
+    PLAIN(GRANT(1, 5), DAMSONPOUCH_OK);
+    fuel(due, 1, 1000000000);
+    PLAIN(GRANT(1, 999999955), DAMSONPOUCH_OK);
+    fuel(due, 16, 0x01020304);
+    PLAIN(GRANT(16, 0x01020304), DAMSONPOUCH_OK);
+    PLAIN(GRANT(2, 0), DAMSONPOUCH_OK);
+}
+
+static void begins(void) {
+    start();
+    fuel(due, 1, 34);
+    serials(due, 1, 3);
+    entry(due, 1, 3, FREE, 0, 0, "\x14", "\x1e");
+    NAMES(BEGIN(1, 0, "\x14", 1, "\x1e", 1), FREE, 1, 3, 6);
+
+    start();
+    fuel(due, 1, 36);
+    serials(due, 1, 3);
+    entry(due, 1, 3, WAITING, 15, 15, "", "\x28");
+    NAMES(BEGIN(1, 15, NULL, 0, "\x28", 1), WAITING, 1, 3, 4);
+
+    start();
+    fuel(due, 1, 34);
+    serials(due, 1, 3);
+    entry(due, 1, 3, BLOCKED, 2, 2, "\x0c\xff", "");
+    NAMES(BEGIN(1, 2, "\x0c\xff", 2, NULL, 0), BLOCKED, 1, 3, 6);
+
+    /* both lists empty, and NULL */
+    start();
+    fuel(due, 1, 38);
+    serials(due, 1, 3);
+    entry(due, 1, 3, FREE, 0, 0, "", "");
+    NAMES(BEGIN(1, 0, NULL, 0, NULL, 0), FREE, 1, 3, 2);
+
+    /* eight of each */
+    start();
+    fuel(due, 1, 6);
+    serials(due, 1, 3);
+    entry(due, 1, 3, FREE, 0, 0, "\x01\x02\x03\x04\x06\x07\x08\x09", "\x65\x66\x67\x68\x69\x6a\x6b\xff");
+    NAMES(BEGIN(1, 0, "\x01\x02\x03\x04\x06\x07\x08\x09", 8, "\x65\x66\x67\x68\x69\x6a\x6b\xff", 8), FREE, 1, 3, 34);
+
+    /* the last serial, and the last unit of fuel: a dry tank can let go */
+    fresh(now, "1");
+    fresh(due, "1");
+    fuel(now, 1, 4);
+    serials(now, 1, 65534);
+    serials(due, 1, 65535);
+    entry(due, 1, 65535, FREE, 0, 0, "", "\x07");
+    NAMES(BEGIN(1, 0, NULL, 0, "\x07", 1), FREE, 1, 65535, 4);
+    fresh(due, "1");
+    serials(due, 1, 65535);
+    PLAIN(FINISH(1, 65535), DAMSONPOUCH_DONE);
+}
+
+/* What is left of the base without 1.1. */
+static void base_without_first(uint8_t *block) {
+    fresh(block, "312");
+    fuel(block, 1, 40);
+    fuel(block, 2, 30);
+    serials(block, 1, 2);
+    serials(block, 2, 1);
+    entry(block, 1, 2, WAITING, 2, 1, "\x14", "");
+    entry(block, 2, 1, BLOCKED, 0, 0, "\x05", "\x0a\x0c");
+}
+
+static void finishes_and_searches(void) {
+    start();
+    base_without_first(due);
+    PLAIN(FINISH(1, 1), DAMSONPOUCH_DONE);
+
+    start();
+    fuel(due, 2, 26);
+    BURNS(RECHECK(2, 1), DAMSONPOUCH_STILL, 4);
+    fuel(due, 2, 17);
+    BURNS(SCAN(2), DAMSONPOUCH_NOTHING, 9);
+
+    base_without_first(now);
+    base_without_first(due);
+    fuel(due, 2, 26);
+    due[640 + 24 + 3] = FREE;
+    NAMES(RECHECK(2, 1), FREE, 2, 1, 4);
+
+    base_without_first(now);
+    base_without_first(due);
+    fuel(due, 1, 33);
+    BURNS(SCAN(1), DAMSONPOUCH_NOTHING, 7);
+    fuel(due, 2, 23);
+    due[640 + 24 + 3] = FREE;
+    NAMES(SCAN(2), FREE, 2, 1, 7);
+}
+
+static void picks_and_delivers(void) {
+    start();
+    PLAIN(PICK(), DAMSONPOUCH_NOTHING);
+    due[640 + 24 + 3] = FREE;
+    due[640 + 24 + 5] = 0;
+    NAMES(DELIVER(1, 2), FREE, 1, 2, 0);
+
+    start();
+    now[640 + 24 + 5] = 2;
+    NAMES(DELIVER(1, 2), WAITING, 1, 2, 0);
+
+    start();
+    now[640 + 48 + 4] = now[640 + 48 + 5] = due[640 + 48 + 4] = 1;
+    NAMES(DELIVER(2, 1), BLOCKED, 2, 1, 0);
+
+    fresh(now, "1");
+    serials(now, 1, 300);
+    entry(now, 1, 300, BLOCKED, 3, 1, "\x05", "");
+    fresh(due, "1");
+    serials(due, 1, 300);
+    entry(due, 1, 300, WAITING, 3, 1, "\x05", "");
+    NAMES(PICK(), WAITING, 1, 300, 0);
+    fresh(now, "1");
+    fresh(due, "1");
+    PLAIN(PICK(), DAMSONPOUCH_NOTHING);
+}
+
+/* ---- the refusals, by their numbers */
+
+static void refusals_1_and_2(void) {
+    start();
+    for (int tenant = 0; tenant < 256; tenant += tenant == 0 ? 17 : 1) {
+        REFUSES(GRANT((uint8_t)tenant, 1), DAMSONPOUCH_NO_SUCH_TENANT, 0);
+        REFUSES(BEGIN((uint8_t)tenant, 16, long_list, 9, NULL, 0), 1, 0);
+        REFUSES(FINISH((uint8_t)tenant, 1), 1, 0);
+        REFUSES(RECHECK((uint8_t)tenant, 1), 1, 0);
+        REFUSES(SCAN((uint8_t)tenant), 1, 0);
+        REFUSES(DELIVER((uint8_t)tenant, 1), 1, 0);
+    }
+    REFUSES(BEGIN(3, 16, long_list, 9, NULL, 0), DAMSONPOUCH_DRY, 0);
+    REFUSES(FINISH(3, 1), 2, 0);
+    REFUSES(RECHECK(3, 1), 2, 0);
+    REFUSES(SCAN(3), 2, 0);
+}
+
+/* Burns one unit of tenant 1's 40, and changes nothing else. */
+#define CHARGES(call, number) (start(), fuel(due, 1, 39), REFUSES(call, number, 1))
+
+static void refusals_3_to_8(void) {
+    CHARGES(BEGIN(1, 255, long_list, 9, NULL, 0), DAMSONPOUCH_TOO_MANY_RECORDS);
+    CHARGES(BEGIN(1, 0, NULL, 0, long_list, 9), 3);
+    CHARGES(BEGIN(1, 0, long_list, 300, NULL, 0), 3);
+    CHARGES(BEGIN(1, 0, NULL, 0, long_list, 300), 3);
+    CHARGES(BEGIN(1, 0, long_list, 256, long_list, 256), 3);
+    CHARGES(BEGIN(1, 0, NULL, 0, "\x07\x07", 2), DAMSONPOUCH_NOT_RISING);
+    CHARGES(BEGIN(1, 16, "\x08\x07", 2, NULL, 0), 4);
+    CHARGES(BEGIN(1, 16, "\x07", 1, "\x07", 1), DAMSONPOUCH_IN_BOTH_LISTS);
+    CHARGES(BEGIN(1, 16, NULL, 0, "\x07", 1), DAMSONPOUCH_AWAITED_TOO_HIGH);
+    CHARGES(BEGIN(1, 255, NULL, 0, NULL, 0), 6);
+    start();
+    fuel(due, 2, 29);
+    REFUSES(BEGIN(2, 0, NULL, 0, NULL, 0), DAMSONPOUCH_SHARE_HELD, 1);
+    start();
+    serials(now, 1, 65535);
+    serials(due, 1, 65535);
+    fuel(due, 1, 39);
+    REFUSES(BEGIN(1, 0, NULL, 0, "\x07", 1), DAMSONPOUCH_SERIALS_GIVEN, 1);
+}
+
+static void refusals_9_to_13(void) {
+    start();
+    fuel(now, 1, 3);
+    fuel(due, 1, 2);
+    REFUSES(BEGIN(1, 0, NULL, 0, "\x07", 1), DAMSONPOUCH_FUEL_BELOW_PRICE, 1);
+    fuel(now, 2, 3);
+    fuel(due, 2, 2);
+    REFUSES(RECHECK(2, 1), 9, 1);
+    /* 1 for the scan, 2 for 1.1, 2 for 1.2; 2.1 would cost 4 */
+    fuel(now, 2, 8);
+    fuel(due, 2, 3);
+    REFUSES(SCAN(2), 9, 5);
+    fuel(due, 2, 0);
+    REFUSES(SCAN(2), 9, 3);
+
+    CHARGES(FINISH(1, 3), DAMSONPOUCH_NO_SUCH_ENTRY);
+    CHARGES(FINISH(1, 257), 10);
+    CHARGES(RECHECK(1, 65535), 10);
+    CHARGES(FINISH(1, 2), DAMSONPOUCH_WRONG_STATE);
+    CHARGES(RECHECK(1, 1), 11);
+
+    start();
+    REFUSES(DELIVER(1, 3), 10, 0);
+    REFUSES(DELIVER(1, 1), DAMSONPOUCH_NOTHING_DUE, 0);
+    REFUSES(DELIVER(2, 1), 12, 0);
+    REFUSES(GRANT(1, 999999961), DAMSONPOUCH_TOO_MUCH_FUEL, 0);
+    REFUSES(GRANT(1, 4294967295u), 13, 0);
+}
+
+static void refusal_14(void) {
+    /* the one refusal that writes: a fresh state with every share 0 */
+    fresh(due, "");
+    for (int garbage = 0; garbage < 2; garbage++) {
+        for (int which = 0; which < 5; which++) {
+            if (garbage)
+                memset(now, 0xa5, LENGTH);
+            else
+                base(now);
+            switch (which) {
+            case 0: REFUSES(OPEN(sixty_five, 16), DAMSONPOUCH_BAD_SHARES, 0); break;
+            case 1: REFUSES(OPEN(fours, 15), 14, 0); break;
+            case 2: REFUSES(OPEN(fours, 17), 14, 0); break;
+            case 3: REFUSES(OPEN(NULL, 0), 14, 0); break;
+            case 4: REFUSES(OPEN(long_list, 300), 14, 0); break;
+            }
+            SOUND(true);
+        }
+    }
+}
+
+/* Every call on `now` says 15, and leaves it. */
+static void refused_15(int line) {
+    memcpy(due, now, LENGTH);
+    same_reply(line, GRANT(0, 1), DAMSONPOUCH_REFUSED, DAMSONPOUCH_NOT_SOUND, 0, 0, 0, 0);
+    same_reply(line, BEGIN(17, 16, long_list, 300, NULL, 0), 4, 15, 0, 0, 0, 0);
+    same_reply(line, FINISH(1, 1), 4, 15, 0, 0, 0, 0);
+    same_reply(line, RECHECK(2, 1), 4, 15, 0, 0, 0, 0);
+    same_reply(line, SCAN(1), 4, 15, 0, 0, 0, 0);
+    same_reply(line, PICK(), 4, 15, 0, 0, 0, 0);
+    same_reply(line, DELIVER(1, 2), 4, 15, 0, 0, 0, 0);
+    if (damsonpouch_sound(now, LENGTH))
+        tell(line, "the block is sound");
+    same_block(line);
+}
+
+static void refusal_15(void) {
+    static const struct {
+        size_t at;
+        uint8_t value;
+    } changes[] = {
+        {0, 0x12},          /* a tag */
+        {637, 0},           /* a length */
+        {3, 63},            /* 66 places */
+        {22, 0x40},         /* fuel above 1,000,000,000 */
+        {639, 65},          /* a count above 64 */
+        {639, 2},           /* an entry that is not counted */
+        {640, 0},           /* tenant 0 */
+        {640, 17},          /* tenant 17 */
+        {4, 0},             /* a tenant above its share */
+        {642, 0},           /* serial 0 */
+        {642, 3},           /* a serial that was not given; 1.2 stands behind it */
+        {643, 3},           /* a state of 3 */
+        {645, 1},           /* more due than awaited */
+        {640 + 24 + 4, 16}, /* awaited above 15 */
+        {640 + 24 + 4, 0},  /* Waiting, and nothing awaited */
+        {647, 0},           /* a record that is not in a list */
+        {640 + 48 + 9, 12}, /* a record twice */
+        {640 + 48 + 8, 10}, /* a record in both lists */
+        {640 + 48 + 3, 0},  /* Free, behind an entry that it conflicts with */
+        {121 + 10, 1},      /* Cx */
+        {380 + 5, 0},       /* Cs */
+        {660, 1},           /* an unused record byte */
+        {2175, 1},          /* an unused entry */
+    };
+    for (size_t k = 0; k < sizeof changes / sizeof *changes; k++) {
+        base(now);
+        SOUND(true);
+        now[changes[k].at] = changes[k].value;
+        int before = wrong;
+        refused_15(__LINE__);
+        if (wrong > before)
+            tell(__LINE__, "so byte %lu as %d", (unsigned long)changes[k].at, changes[k].value);
+    }
+    memset(now, 0, LENGTH);
+    refused_15(__LINE__);
+    memset(now, 0xff, LENGTH);
+    refused_15(__LINE__);
+}
+
+/* A block of another length is refused by Open too, before 14, and not written. */
+static void wrong_lengths(void) {
+    static uint8_t more[2 * LENGTH], as_it_was[2 * LENGTH];
+    static const size_t lengths[] = {0, 1, 3, 640, LENGTH - 1, LENGTH + 1, 2 * LENGTH};
+    base(more);
+    memcpy(as_it_was, more, sizeof more);
+    for (size_t k = 0; k < sizeof lengths / sizeof *lengths; k++) {
+        const size_t n = lengths[k];
+        same_reply(__LINE__, damsonpouch_open(more, n, two_two, 16), 4, 15, 0, 0, 0, 0);
+        same_reply(__LINE__, damsonpouch_open(more, n, NULL, 0), 4, 15, 0, 0, 0, 0);
+        same_reply(__LINE__, damsonpouch_grant(more, n, 1, 1), 4, 15, 0, 0, 0, 0);
+        same_reply(__LINE__, damsonpouch_begin(more, n, 1, 0, NULL, 0, NULL, 0), 4, 15, 0, 0, 0, 0);
+        same_reply(__LINE__, damsonpouch_finish(more, n, 1, 1), 4, 15, 0, 0, 0, 0);
+        same_reply(__LINE__, damsonpouch_recheck(more, n, 2, 1), 4, 15, 0, 0, 0, 0);
+        same_reply(__LINE__, damsonpouch_scan(more, n, 1), 4, 15, 0, 0, 0, 0);
+        same_reply(__LINE__, damsonpouch_pick(more, n), 4, 15, 0, 0, 0, 0);
+        same_reply(__LINE__, damsonpouch_deliver(more, n, 1, 2), 4, 15, 0, 0, 0, 0);
+        if (damsonpouch_sound(more, n))
+            tell(__LINE__, "a block of %lu bytes is sound", (unsigned long)n);
+        if (memcmp(more, as_it_was, sizeof more) != 0)
+            tell(__LINE__, "a block of %lu bytes was written", (unsigned long)n);
+    }
+}
+
+/* A block may begin at any address, and the bytes beside it stay. */
+static void any_address(void) {
+    static uint8_t room[LENGTH + 16];
+    for (size_t shift = 0; shift < 16; shift++) {
+        memset(room, 0xee, sizeof room);
+        base(room + shift);
+        same_reply(__LINE__, damsonpouch_begin(room + shift, LENGTH, 1, 0, NULL, 0, NULL, 0), 5, 0, FREE, 1, 3, 2);
+        for (size_t at = 0; at < sizeof room; at++)
+            if ((at < shift || at >= shift + LENGTH) && room[at] != 0xee)
+                tell(__LINE__, "the byte %ld of the block was written", (long)at - (long)shift);
+    }
+}
+
+int main(void) {
+    for (size_t k = 0; k < sizeof long_list; k++)
+        long_list[k] = (uint8_t)k;
+    opens();
+    grants();
+    begins();
+    finishes_and_searches();
+    picks_and_delivers();
+    refusals_1_and_2();
+    refusals_3_to_8();
+    refusals_9_to_13();
+    refusal_14();
+    refusal_15();
+    wrong_lengths();
+    any_address();
+    if (wrong > 0)
+        return EXIT_FAILURE;
+    printf("%d checks of the calls from C\n", checks);
+    return EXIT_SUCCESS;
+}
