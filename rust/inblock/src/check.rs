@@ -13,16 +13,20 @@ pub struct Map {
 }
 
 impl Map {
+    fn put(&mut self, record: u8) {
+        self.words[usize::from(record) / 64] |= 1 << (record % 64);
+    }
+
+    fn has(&self, record: u8) -> bool {
+        self.words[usize::from(record) / 64] >> (record % 64) & 1 == 1
+    }
+
     pub fn insert(&mut self, records: &[u8]) {
-        for &record in records {
-            self.words[usize::from(record) / 64] |= 1 << (record % 64);
-        }
+        records.iter().for_each(|&record| self.put(record));
     }
 
     pub fn hits(&self, records: &[u8]) -> bool {
-        records
-            .iter()
-            .any(|&record| self.words[usize::from(record) / 64] >> (record % 64) & 1 == 1)
+        records.iter().any(|&record| self.has(record))
     }
 }
 
@@ -121,24 +125,24 @@ impl Ahead {
         if !rises(reads) || !rises(writes) || unused.iter().any(|&byte| byte != 0) {
             return false;
         }
-        let mut own_read = Map::default();
-        own_read.insert(reads);
-        // a record in both lists, and then conflicts
-        if own_read.hits(writes)
-            || state != BLOCKED
-                && (self.written.hits(reads) || self.written.hits(writes) || self.read.hits(writes))
-        {
-            return false;
-        }
+        // a write that the entry itself reads is refused, so its own reads may join the map at once
+        let mut own = Map::default();
+        let mut clash = false;
         for &record in reads {
+            clash |= self.written.has(record);
+            own.put(record);
+            self.read.put(record);
             self.cs[usize::from(record)] += 1;
         }
         for &record in writes {
+            if own.has(record) {
+                return false;
+            }
+            clash |= self.written.has(record) || self.read.has(record);
+            self.written.put(record);
             self.cx[usize::from(record)] += 1;
         }
-        self.read.insert(reads);
-        self.written.insert(writes);
-        true
+        state == BLOCKED || !clash
     }
 }
 
