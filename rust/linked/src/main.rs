@@ -62,58 +62,61 @@ fn all() -> Result<(), String> {
 }
 
 fn show_times() {
-    let rounds = [0, 16, 63].map(Work::Round);
-    let calls = [
-        rounds[0],
-        rounds[1],
-        rounds[2],
-        Work::Recheck(63),
-        Work::Scan,
-    ];
     let on = [On::Held(0), On::Held(16), On::Held(63), On::Full];
+    // each call with the block that it finds
+    let calls = [
+        (Work::Round(0), on[0]),
+        (Work::Round(16), on[1]),
+        (Work::Round(63), on[2]),
+        (Work::Recheck(63), on[2]),
+        (Work::Scan, on[3]),
+    ];
     let works: Vec<Work> = calls
-        .into_iter()
+        .iter()
+        .map(|&(call, _)| call)
         .chain(on.map(Work::Check))
         .chain(on.map(Work::Refused))
         .chain([Work::Open])
         .collect();
     let pairs = measured(&works);
+    let of = |work| {
+        let at = works.iter().position(|&known| known == work);
+        pairs[at.expect("a measured work")]
+    };
     println!("Processor time, medians of {} turns:", TURNS);
     println!();
-    println!("| | linked | by hand | linked, calls a second | by hand, calls a second | linked / by hand |");
+    println!(
+        "| | linked | by hand | linked, calls a second | by hand, calls a second | linked / by hand |"
+    );
     println!("|---|---|---|---|---|---|");
-    for (work, Pair { linked, by_hand }) in works.iter().zip(&pairs) {
+    for work in &works {
+        let Pair { linked, by_hand } = of(*work);
         println!(
             "| {} | {:.0} ns | {:.0} ns | {} | {} | {:.2} |",
             work.name(),
             linked,
             by_hand,
-            a_second(*linked),
-            a_second(*by_hand),
+            a_second(linked),
+            a_second(by_hand),
             linked / by_hand
         );
     }
     println!();
-    println!("| | the check in it, linked | by hand |");
-    println!("|---|---|---|");
-    let of = |work| {
-        pairs[works
-            .iter()
-            .position(|&known| known == work)
-            .expect("a measured work")]
-    };
-    for (work, on) in [
-        (rounds[0], on[0]),
-        (rounds[1], on[1]),
-        (rounds[2], on[2]),
-        (Work::Scan, on[3]),
-    ] {
-        let (call, check) = (of(work), of(Work::Check(on)));
+    println!("Of a linked call's time:");
+    println!();
+    println!("| | the check | decoding and encoding | the call itself |");
+    println!("|---|---|---|---|");
+    for (call, on) in calls {
+        let whole = of(call).linked;
+        let check = of(Work::Check(on)).linked;
+        let refused = of(Work::Refused(on)).linked;
+        let part = |part: f64| format!("{:.0} ns, {:.0} %", part, 100.0 * part / whole);
         println!(
-            "| {} | {:.0} % | {:.0} % |",
-            work.name(),
-            100.0 * check.linked / call.linked,
-            100.0 * check.by_hand / call.by_hand
+            "| {} | {} | {} | {} |",
+            call.name(),
+            part(check),
+            part(refused - check),
+            part(whole - refused)
         );
     }
 }

@@ -4,7 +4,7 @@ use crate::calls::{Calls, BY_HAND, LINKED};
 use crate::work::Work;
 use std::hint::black_box;
 
-pub const TURNS: usize = 51;
+pub const TURNS: usize = 101;
 /// How often a work is done in a turn.
 const TIMES: u16 = 1_500;
 
