@@ -1,0 +1,263 @@
+use super::*;
+use crate::layout::{Block, HEADS, METERS, METER_BYTES};
+use events::random::Random;
+use second::{Answer, Outcome, State, Table};
+
+fn state_byte(state: State) -> u8 {
+    match state {
+        State::Free => FREE,
+        State::Waiting => WAITING,
+        State::Blocked => BLOCKED,
+    }
+}
+
+/// The second program's table as the block's bytes.
+fn encoded(table: &Table) -> Block {
+    let mut bytes = Vec::new();
+    bytes.extend(HEADS[0].1);
+    bytes.extend(table.meters.iter().map(|meter| meter.share));
+    bytes.extend(HEADS[1].1);
+    for meter in &table.meters {
+        bytes.extend(meter.fuel.to_be_bytes());
+        bytes.extend(meter.serials.to_be_bytes());
+    }
+    for (head, written) in [(HEADS[2].1, true), (HEADS[3].1, false)] {
+        bytes.extend(head);
+        bytes.extend((0..=255).map(|record| {
+            let has = |entry: &&second::Entry| {
+                let request = &entry.request;
+                let list = if written {
+                    &request.writes
+                } else {
+                    &request.reads
+                };
+                list.contains(&record)
+            };
+            table.queue.iter().filter(has).count() as u8
+        }));
+    }
+    bytes.extend(HEADS[4].1);
+    bytes.push(table.queue.len() as u8);
+    for entry in &table.queue {
+        let request = &entry.request;
+        let start = bytes.len();
+        bytes.push(entry.tenant);
+        bytes.extend(entry.serial.to_be_bytes());
+        bytes.extend([state_byte(entry.state), request.awaited, entry.due]);
+        bytes.extend([request.reads.len() as u8, request.writes.len() as u8]);
+        bytes.extend(&request.reads);
+        bytes.extend(&request.writes);
+        bytes.resize(start + ENTRY_BYTES, 0);
+    }
+    bytes.resize(BLOCK_BYTES, 0);
+    bytes.try_into().unwrap()
+}
+
+fn reply_of(outcome: Outcome) -> Reply {
+    let burnt = outcome.burnt;
+    match outcome.answer {
+        Answer::Ok => Reply::plain(OK, burnt),
+        Answer::Done => Reply::plain(DONE, burnt),
+        Answer::Still => Reply::plain(STILL, burnt),
+        Answer::Nothing => Reply::plain(NOTHING, burnt),
+        Answer::Refused(refusal) => Reply::refused(refusal.number(), burnt),
+        Answer::Entry {
+            state,
+            tenant,
+            serial,
+        } => Reply {
+            kind: NAMED,
+            number: 0,
+            state: state_byte(state),
+            tenant,
+            serial,
+            burnt,
+        },
+    }
+}
+
+fn some_list(random: &mut Random) -> Vec<u8> {
+    let most = if random.chance(3) { 10 } else { 4 };
+    let count = random.between(0, most);
+    let mut list: Vec<u8> = (0..count).map(|_| random.byte_between(0, 30)).collect();
+    if random.chance(95) {
+        list.sort_unstable();
+        list.dedup();
+    }
+    list
+}
+
+/// One call, made on both.
+fn call_both(random: &mut Random, block: &mut Block, table: &mut Table) -> (Reply, Outcome) {
+    let tenant = random.byte_between(0, 6);
+    let serial = match random.any_of(&(0..table.queue.len()).collect::<Vec<_>>()) {
+        Some(at) if random.chance(90) => table.queue[at].serial,
+        _ => random.between(0, 20) as u16,
+    };
+    let owner = table.queue.iter().find(|entry| entry.serial == serial);
+    let tenant = match owner {
+        Some(entry) if random.chance(70) => entry.tenant,
+        _ => tenant,
+    };
+    match random.below(12) {
+        0..=4 => {
+            let awaited = if random.chance(70) {
+                0
+            } else {
+                random.byte_between(0, 16)
+            };
+            let (reads, writes) = (some_list(random), some_list(random));
+            (
+                begin(block, tenant, awaited, &reads, &writes),
+                table.begin(tenant, awaited, &reads, &writes),
+            )
+        }
+        5 => (finish(block, tenant, serial), table.finish(tenant, serial)),
+        6 => (
+            recheck(block, tenant, serial),
+            table.recheck(tenant, serial),
+        ),
+        7 => (scan(block, tenant), table.scan(tenant)),
+        8 => (pick(block), table.pick()),
+        9 | 10 => (
+            deliver(block, tenant, serial),
+            table.deliver(tenant, serial),
+        ),
+        _ => {
+            let amount = random.between(0, 300) as u32;
+            (grant(block, tenant, amount), table.grant(tenant, amount))
+        }
+    }
+}
+
+#[test]
+fn every_call_does_what_the_second_program_does() {
+    let mut random = Random::new(1);
+    for _ in 0..40 {
+        let shares: Vec<u8> = (0..16).map(|_| random.byte_between(0, 8)).collect();
+        let mut block = [0xff; BLOCK_BYTES];
+        let reply = open(&mut block, &shares);
+        let (mut table, outcome) = Table::open(&shares);
+        assert_eq!(reply, reply_of(outcome));
+        for _ in 0..300 {
+            assert_eq!(block, encoded(&table));
+            let (reply, outcome) = call_both(&mut random, &mut block, &mut table);
+            assert_eq!(reply, reply_of(outcome));
+        }
+    }
+}
+
+#[test]
+fn open_takes_any_bytes_of_the_right_length() {
+    let mut block = [0xff; BLOCK_BYTES];
+    assert_eq!(open(&mut block, &[4; 15]), Reply::refused(14, 0));
+    assert_eq!(block, encoded(&Table::default()));
+    assert_eq!(open(&mut block[1..], &[4; 16]), Reply::refused(15, 0));
+    assert_eq!(open(&mut block, &[4; 16]), Reply::plain(OK, 0));
+    assert!(sound(&block));
+    assert!(!sound(&block[1..]));
+    assert_eq!(grant(&mut block[1..], 0, 0), Reply::refused(15, 0));
+}
+
+/// Entries 1.1 Free, 1.2 Blocked by it, 2.1 Waiting, and 2.2 Free with an
+/// answer delivered.
+fn queued() -> Block {
+    let mut block = [0; BLOCK_BYTES];
+    open(
+        &mut block,
+        &[2, 3, 0, 0, 0, 0, 0, 0, 0, 0, 0, 0, 0, 0, 0, 0],
+    );
+    grant(&mut block, 1, 100);
+    grant(&mut block, 2, 100);
+    begin(&mut block, 1, 0, &[1, 2], &[3]);
+    begin(&mut block, 1, 0, &[3], &[4]);
+    begin(&mut block, 2, 2, &[1], &[]);
+    begin(&mut block, 2, 1, &[], &[9]);
+    deliver(&mut block, 2, 2);
+    block
+}
+
+/// The clauses of a sound block, each broken by some bytes: where they stand,
+/// and what is put there.
+#[test]
+fn each_clause_of_soundness_is_checked() {
+    let at = |place: usize, part: usize| ENTRIES + place * ENTRY_BYTES + part;
+    let meter = |tenant: usize| METERS + (tenant - 1) * METER_BYTES;
+    let broken: &[(&str, &[(usize, u8)])] = &[
+        ("a tag", &[(0, 0x12)]),
+        ("a length", &[(638, 0)]),
+        ("the sum of the shares", &[(SHARES + 2, 60)]),
+        (
+            "fuel",
+            &[
+                (meter(5), 0x3b),
+                (meter(5) + 1, 0x9a),
+                (meter(5) + 2, 0xca),
+                (meter(5) + 3, 1),
+            ],
+        ),
+        ("a share", &[(SHARES, 1)]),
+        ("the count", &[(COUNT, 65)]),
+        ("a count too low", &[(COUNT, 3)]),
+        ("a count too high", &[(COUNT, 5)]),
+        ("tenant 0", &[(at(0, TENANT), 0)]),
+        ("tenant 17", &[(at(0, TENANT), 17)]),
+        ("serial 0", &[(at(0, SERIAL + 1), 0)]),
+        ("a serial twice", &[(at(0, SERIAL + 1), 2)]),
+        ("a serial not given", &[(meter(2) + 5, 1)]),
+        ("a state", &[(at(0, STATE), 3)]),
+        ("awaited", &[(at(2, AWAITED), 16)]),
+        ("due", &[(at(2, DUE), 3)]),
+        ("Free with something due", &[(at(2, STATE), FREE)]),
+        ("Waiting with nothing awaited", &[(at(0, STATE), WAITING)]),
+        ("Free behind a conflict", &[(at(1, STATE), FREE)]),
+        ("the reads' number", &[(at(0, NR), 1), (at(0, NW), 2)]),
+        (
+            "reads that do not rise",
+            &[(at(0, LISTS), 2), (at(0, LISTS + 1), 1)],
+        ),
+        ("a byte behind the records", &[(at(0, LISTS + 3), 1)]),
+        ("an unused entry", &[(at(63, LISTS + 15), 1)]),
+        ("Cx", &[(CX + 3, 2)]),
+        ("Cs", &[(CS + 255, 1)]),
+    ];
+    assert!(sound(&queued()));
+    for (clause, bytes) in broken {
+        let mut block = queued();
+        for &(place, value) in *bytes {
+            assert_ne!(block[place], value, "{}", clause);
+            block[place] = value;
+        }
+        let before = block;
+        assert!(!sound(&block), "{}", clause);
+        assert_eq!(finish(&mut block, 0, 0), Reply::refused(15, 0));
+        assert_eq!(block, before);
+    }
+}
+
+#[test]
+fn what_the_clauses_allow_is_sound() {
+    let at = |place: usize, part: usize| ENTRIES + place * ENTRY_BYTES + part;
+    let mut block = queued();
+    // a Waiting entry with nothing due; a Blocked one that nothing blocks; a gap in the serials
+    for (place, value) in [
+        (at(2, DUE), 0),
+        (at(0, STATE), BLOCKED),
+        (at(3, SERIAL + 1), 9),
+        (METERS + METER_BYTES + 5, 9),
+    ] {
+        block[place] = value;
+    }
+    assert!(sound(&block));
+}
+
+#[test]
+fn a_record_in_both_lists_is_not_sound() {
+    let mut block = queued();
+    let first = ENTRIES + LISTS;
+    // 1.1 reads 1 and 3, writes 3: the counters go with it
+    block[first + 1] = 3;
+    block[CS + 2] -= 1;
+    block[CS + 3] += 1;
+    assert!(!sound(&block));
+}

@@ -1,0 +1,76 @@
+//! Whether the linked calls and those by hand do the same, over calls from a
+//! seed: the same replies, and the same bytes afterwards.
+
+use crate::calls::{Call, BY_HAND, LINKED};
+use crate::seeded;
+use events::random::Random;
+use inblock::{Reply, BLOCK_BYTES, REFUSED};
+
+const SEQUENCES: usize = 60;
+const CALLS: usize = 250;
+
+#[derive(Default)]
+pub struct Tally {
+    /// Calls on blocks as they came from the calls before.
+    pub plain: usize,
+    /// Calls on damaged blocks, and those of them that were refused with 15.
+    pub damaged: usize,
+    pub refused: usize,
+}
+
+/// The tally, or what differs.
+pub fn agree(seed: u64) -> Result<Tally, String> {
+    let mut random = Random::new(seed);
+    let mut tally = Tally::default();
+    for _ in 0..SEQUENCES {
+        let top = random.one_of(&[20, 90, 255]);
+        let mut block = random.bytes(BLOCK_BYTES);
+        both(&Call::Open(seeded::shares(&mut random)), &mut block)?;
+        for tenant in 1..=16 {
+            let amount = random.one_of(&[0, 30, 400, 1_000_000]);
+            both(&Call::Grant(tenant, amount), &mut block)?;
+        }
+        tally.plain += 17;
+        for _ in 0..CALLS {
+            if random.chance(40) {
+                let mut damaged = block.clone();
+                seeded::damage(&mut random, &mut damaged);
+                both(&Call::Sound, &mut damaged)?;
+                let call = if random.chance(2) {
+                    Call::Open(seeded::shares(&mut random))
+                } else {
+                    seeded::call(&mut random, &damaged, top)
+                };
+                let reply = both(&call, &mut damaged)?;
+                tally.damaged += 1;
+                tally.refused += usize::from(reply.kind == REFUSED && reply.number == 15);
+            }
+            let call = seeded::call(&mut random, &block, top);
+            both(&call, &mut block)?;
+            tally.plain += 1;
+        }
+    }
+    Ok(tally)
+}
+
+/// Makes a call on both; they must agree.
+fn both(call: &Call, block: &mut Vec<u8>) -> Result<Reply, String> {
+    let before = block.clone();
+    let mut other = block.clone();
+    let linked = LINKED.make(call, block);
+    let by_hand = BY_HAND.make(call, &mut other);
+    if linked != by_hand {
+        return Err(format!(
+            "{:?} answers {:?} linked and {:?} by hand, on the block {:02x?}",
+            call, linked, by_hand, before
+        ));
+    }
+    if *block != other {
+        let at = (0..other.len()).find(|&at| block[at] != other[at]);
+        return Err(format!(
+            "after {:?} byte {:?} differs, on the block {:02x?}",
+            call, at, before
+        ));
+    }
+    Ok(linked)
+}
