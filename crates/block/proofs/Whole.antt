@@ -36,6 +36,15 @@ p640 t = p636 t ++ (head 21 1_537 ++ length (t .queue) ∷ [])
 abbrev pub unused : Table → List ℕ
 unused t = replicate ((64 - length (t .queue)) * 24) 0
 
+-- the fields from Cx on
+abbrev pub behind : List Request → List ℕ
+behind q =
+    head 19 256
+    ++ (tab (cx q) 256
+    ++ (head 20 256
+    ++ (tab (cs q) 256
+    ++ ((head 21 1_537 ++ length q ∷ []) ++ (flat entryBytes q ++ replicate ((64 - length q) * 24) 0)))))
+
 module _ (t : Table) (s : SoundTable t) where
   len19 : length (p19 t) ≡ 19
   len19 = omega (arith, flat-length shareByte 1 (t .meters) (each-all (t .meters) (λ m. refl)), s .sixteen)
@@ -90,6 +99,10 @@ module _ (t : Table) (s : SoundTable t) where
   cut19 =
       cut118 ∙ append-assoc (p19 t ++ head 18 96) (flat meterBytes (t .meters)) r118 ∙ append-assoc (p19 t) (head 18 96) (flat meterBytes (t .meters) ++ r118)
 
+  -- what stands from Cx on is the queue's
+  pub read-behind : drop 118 (blockOf t) ≡ behind (t .queue)
+  read-behind = ap (drop 118) cut118 ∙ drop-at (p118 t) r118 118 len118
+
   -- ---- the heads
   head-at : (p h r : List ℕ) (at : ℕ) → blockOf t ≡ p ++ (h ++ r) → length p ≡ at → length h ≡ 3 → part (blockOf t) at 3 ≡ h
   head-at p h r at cut size three = ap (λ (b : List ℕ). part b at 3) (cut ∙ sym (append-assoc p h r)) ∙ part-here p h r at 3 size three
@@ -132,12 +145,12 @@ module _ (t : Table) (s : SoundTable t) where
   unfolding blockOf
   read-row i lt = rows-at entryBytes 24 (p640 t) (t .queue) (unused t) 640 i nobody len640 sized lt
 
-  read-meter : (i : ℕ) → i < 16 → part (blockOf t) (22 + i * 6) 6 ≡ meterBytes (getD (t .meters) i noMeter)
+  pub read-meter : (i : ℕ) → i < 16 → part (blockOf t) (22 + i * 6) 6 ≡ meterBytes (getD (t .meters) i noMeter)
   read-meter i lt =
       let n : length (p19 t ++ head 18 96) ≡ 22 = length-append (p19 t) (head 18 96) ∙ omega (arith, len19) in
       ap (λ (b : List ℕ). part b (22 + i * 6) 6) cut118 ∙ rows-at meterBytes 6 (p19 t ++ head 18 96) (t .meters) r118 22 i noMeter n (each-all (t .meters) meter-length) (omega (arith, s .sixteen))
 
-  read-share : (i : ℕ) → i < 16 → getD (blockOf t) (3 + i) 0 ≡ getD (t .meters) i noMeter .share
+  pub read-share : (i : ℕ) → i < 16 → getD (blockOf t) (3 + i) 0 ≡ getD (t .meters) i noMeter .share
   read-share i lt =
       let one : part (blockOf t) (3 + i * 1) 1 ≡ shareByte (getD (t .meters) i noMeter) = ap (λ (b : List ℕ). part b (3 + i * 1) 1) cut19 ∙ rows-at shareByte 1 (head 17 16) (t .meters) r19 3 i noMeter refl (each-all (t .meters) (λ m. refl)) (omega (arith, s .sixteen)) in
       let k : 3 + i ≡ 3 + i * 1 + 0 = omega arith in

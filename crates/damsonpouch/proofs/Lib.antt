@@ -1,3 +1,4 @@
 pub mod Replies
 pub mod Linking
 pub mod Stretches
+pub mod Writes

@@ -17,7 +17,7 @@ use Rattle.block.specs.Read.{Holds}
 use Rattle.block.proofs.Whole.{block-length, block-tells}
 use Rattle.damsonpouch.specs.declared.Reply.{Reply}
 use Rattle.damsonpouch.specs.Reply.{replyOf, refused15}
-use Rattle.damsonpouch.specs.Linked.{On, Anew, Linked, OneResult}
+use Rattle.damsonpouch.specs.Linked.{On, Anew, Linked, OneResult, OneVerdict}
 
 pub block-whole : {b : List ℕ} → SoundBlock b → length b ≡ 2_176
 block-whole k = ap length (k .is) ∙ block-length (k .of) (k .sound)
@@ -94,3 +94,9 @@ one-result has before after after' r r' l m =
     let agree : (f : Reply → ℕ) → f r ≡ f r' = λ f. same-number (f r) (f r') (λ no. let none : (o : Outcome) → has before o → ⊥ = λ o h. no (ap f (l .reply o h ∙ sym (m .reply o h))) in no (ap f (l .refused none ∙ sym (m .refused none)))) in
     let blocks : after ≡ after' = same-list after after' (λ no. let none : (o : Outcome) → has before o → ⊥ = λ o h. no (l .block o h ∙ sym (m .block o h)) in no (l .kept none ∙ sym (m .kept none))) in
     (blocks, λ i. record { kind = agree (λ x. x .kind) i; number = agree (λ x. x .number) i; state = agree (λ x. x .state) i; tenant = agree (λ x. x .tenant) i; serial = agree (λ x. x .serial) i; burnt = agree (λ x. x .burnt) i })
+
+pub one-verdict : OneVerdict
+one-verdict b true true t u = refl
+one-verdict b true false t u = absurd (u .other refl (t .yes refl))
+one-verdict b false true t u = absurd (t .other refl (u .yes refl))
+one-verdict b false false t u = refl

@@ -22,7 +22,7 @@ use Rattle.damsonpouch.specs.Linked.{Anew}
 use Rattle.damsonpouch.specs.Stretches.{Has, Made, uncalled, called, Stretch, IsRun, from, OfStretch, EveryStretch}
 
 -- ---- on a sound block each call has the law book's outcome
-has-step : (c : Call) (t : Table) {b : List ℕ} → SoundTable t → b ≡ blockOf t → Has c b (step clause9 t c)
+pub has-step : (c : Call) (t : Table) {b : List ℕ} → SoundTable t → b ≡ blockOf t → Has c b (step clause9 t c)
 has-step (Begin who awaited reads writes) t s e = record { of = t; sound = s; is = e; outcome = refl }
 has-step (Finish who serial) t s e = record { of = t; sound = s; is = e; outcome = refl }
 has-step (Recheck who serial) t s e = record { of = t; sound = s; is = e; outcome = refl }

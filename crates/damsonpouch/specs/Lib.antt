@@ -1,3 +1,4 @@
 pub mod Reply
 pub mod Linked
 pub mod Stretches
+pub mod Writes

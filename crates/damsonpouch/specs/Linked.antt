@@ -1,12 +1,14 @@
 -- What a linked call does to a block, and what it replies.
 use Prim.Native.Nat.{ℕ}
 use mathlib.Core.Path.{_≡_}
+use mathlib.Core.Bool.{Bool}
 use mathlib.Core.List.{List}
 use lib.ListN.{length}
 use Rattle.rules.specs.Table.{Table}
 use Rattle.rules.specs.Calls.{Outcome}
 use Rattle.rules.specs.Sound.{SoundTable}
-use Rattle.block.specs.Block.{blockOf}
+use Rattle.block.specs.Block.{blockOf, SoundBlock}
+use Rattle.block.specs.Check.{Tells}
 use Rattle.damsonpouch.specs.declared.Reply.{Reply}
 use Rattle.damsonpouch.specs.Reply.{replyOf, refused15}
 
@@ -39,3 +41,7 @@ OneResult =
     Linked has before after r →
     Linked has before after' r' →
     (after ≡ after') × (r ≡ r')
+
+-- and so are two verdicts on a block
+abbrev pub OneVerdict : Type 0
+OneVerdict = (b : List ℕ) (r r' : Bool) → Tells r (SoundBlock b) → Tells r' (SoundBlock b) → r ≡ r'
