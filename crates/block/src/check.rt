@@ -10,7 +10,7 @@ ghost use Rattle.counters.specs.Counters.{at, Raised, Under};
 ghost use Rattle.block.specs.Block.{SoundBlock};
 ghost use Rattle.block.specs.Clauses.{part, modeOf, requestIn, meterAt, countIn};
 ghost use Rattle.block.specs.Check.{Tells, Heads, MetersFit, Allows, NumbersFit, ListsFit, RowFits, QueueFits};
-use super::read;
+use super::bytes;
 
 // Whether a field's head, its tag and its length in two bytes, stands at a place.
 fn head(b: &[u8], at: usize, tag: u8, high: u8, low: u8) -> bool
@@ -26,6 +26,7 @@ fn head(b: &[u8], at: usize, tag: u8, high: u8, low: u8) -> bool
     b[at + 2] == low
 }
 
+// Whether each field has its head.
 fn heads(b: &[u8]) -> bool
     requires { ⌜ length (now b) ≡ 2176 ⌝ }
     ensures { λ r. ⌜ Tells r (Heads (now (b .entry))) ⌝ }
@@ -45,7 +46,7 @@ fn heads(b: &[u8]) -> bool
     head(b, 636, 21, 6, 1)
 }
 
-// Whether all bytes are zero. It looks at every one, and counts: so it has no way out on the way.
+// Whether all bytes are zero. It looks at every one and has no way out on the way, so that many are looked at together.
 fn zeros(p: &[u8]) -> bool
     ensures { λ r. ⌜ Tells r (now (p .entry) ≡ replicate (length (now (p .entry))) 0) ⌝ }
 {
@@ -61,7 +62,7 @@ fn zeros(p: &[u8]) -> bool
     other == 0
 }
 
-// Whether two lists of bytes of one length are the same, by counting too.
+// Whether two lists of bytes of one length are the same, told in the same way.
 fn same(x: &[u8], y: &[u8]) -> bool
     requires { ⌜ length (now x) ≡ length (now y) ⌝ }
     ensures { λ r. ⌜ Tells r (now (x .entry) ≡ now (y .entry)) ⌝ }
@@ -88,11 +89,11 @@ fn tenants(b: &[u8]) -> bool
     while i < 16 {
         let at = 22 + i * 6;
         let end = at + 6;
-        let m = read::meter_from(&b[at..end], b[3 + i]);
+        let m = bytes::meter_from(&b[at..end], b[3 + i]);
         if 1_000_000_000 < m.fuel {
             return false;
         }
-        places += read::wider(m.share);
+        places += bytes::wider(m.share);
         i += 1;
     }
     places <= 64
@@ -141,8 +142,8 @@ fn lists_fit(p: &[u8]) -> bool
     requires { ⌜ getD (now p) 7 0 ≤ 8 ⌝ }
     ensures { λ r. ⌜ Tells r (ListsFit (now (p .entry))) ⌝ }
 {
-    let mid = 8 + read::index(p[6]);
-    let end = mid + read::index(p[7]);
+    let mid = 8 + bytes::index(p[6]);
+    let end = mid + bytes::index(p[7]);
     if !entry::rises(&p[8..mid]) {
         return false;
     }
@@ -182,8 +183,8 @@ fn clear<'a>(cx: &'a [u8; 256], cs: &'a [u8; 256], p: &'a [u8]) -> bool
     if 1 < p[3] {
         return true;
     }
-    let mid = 8 + read::index(p[6]);
-    let end = mid + read::index(p[7]);
+    let mid = 8 + bytes::index(p[6]);
+    let end = mid + bytes::index(p[7]);
     !counters::clash(cx, cs, &p[8..mid], &p[mid..end])
 }
 
@@ -195,7 +196,7 @@ fn given(b: &[u8], k: usize) -> u16
 {
     let at = 22 + k * 6;
     let end = at + 6;
-    let m = read::meter_from(&b[at..end], b[3 + k]);
+    let m = bytes::meter_from(&b[at..end], b[3 + k]);
     m.serials
 }
 
@@ -218,7 +219,7 @@ fn serial(p: &[u8]) -> u16
     requires { ⌜ length (now p) ≡ 24 ⌝ }
     ensures { λ r. ⌜ r ≡ requestIn (now (p .entry)) .serial ⌝ }
 {
-    read::wide(p[1]) * 256 + read::wide(p[2])
+    bytes::wide(p[1]) * 256 + bytes::wide(p[2])
 }
 
 // Whether a serial is above its tenant's last, one that was given, and a place of the share is left for it.
@@ -243,8 +244,8 @@ fn count<'a>(cx: &'a mut [u8; 256], cs: &'a mut [u8; 256], p: &'a [u8])
     ensures { λ _. ⌜ Raised (now (cx .entry)) (requestIn (now (p .entry)) .writes) (now (cx .exit)) × (length (now (cx .exit)) ≡ 256) ⌝ }
     ensures { λ _. ⌜ Raised (now (cs .entry)) (requestIn (now (p .entry)) .reads) (now (cs .exit)) × (length (now (cs .exit)) ≡ 256) ⌝ }
 {
-    let mid = 8 + read::index(p[6]);
-    let end = mid + read::index(p[7]);
+    let mid = 8 + bytes::index(p[6]);
+    let end = mid + bytes::index(p[7]);
     counters::raise_each(cx, &p[mid..end]);
     counters::raise_each(cs, &p[8..mid]);
 }
@@ -270,7 +271,7 @@ fn entries(b: &[u8], n: usize) -> bool
         if !entry_fits(p) {
             return false;
         }
-        let k = read::index(p[0]) - 1;
+        let k = bytes::index(p[0]) - 1;
         let next = serial(p);
         if !follows(next, last[k], given(b, k), left[k]) {
             return false;
@@ -289,6 +290,7 @@ fn entries(b: &[u8], n: usize) -> bool
     same(&cs, &b[380..636])
 }
 
+// Whether bytes, any number of them, are a sound block.
 pub fn sound(b: &[u8]) -> bool
     ensures { λ r. ⌜ Tells r (SoundBlock (now (b .entry))) ⌝ }
 {
@@ -301,7 +303,7 @@ pub fn sound(b: &[u8]) -> bool
     if !tenants(b) {
         return false;
     }
-    let n = read::index(b[639]);
+    let n = bytes::index(b[639]);
     if 64 < n {
         return false;
     }

@@ -7,32 +7,15 @@ ghost use Rattle.entry.specs.Entry.{Stands, Kept};
 ghost use Rattle.meter.specs.View.{meterView};
 ghost use Rattle.queue.specs.Queue.{Holds as Slots};
 ghost use Rattle.block.specs.Block.{SoundBlock};
-ghost use Rattle.block.specs.Clauses.{part, modeOf, requestIn, meterFrom, metersIn, countIn, queueIn};
+ghost use Rattle.block.specs.Clauses.{part, modeOf, requestIn, metersIn, countIn, queueIn};
 ghost use Rattle.block.specs.Read.{Holds};
+use super::bytes;
 use entry::Entry;
 use manager::Said;
 use manager::State;
 use meter::Meter;
 use rules::Answer;
 use rules::Mode;
-
-pub fn wide(x: u8) -> u16
-    ensures { λ r. ⌜ (r ≡ x) × (r < 256) ⌝ }
-{
-    x as u16
-}
-
-pub fn wider(x: u8) -> u32
-    ensures { λ r. ⌜ (r ≡ x) × (r < 256) ⌝ }
-{
-    x as u32
-}
-
-pub fn index(x: u8) -> usize
-    ensures { λ r. ⌜ (r ≡ x) × (r < 256) ⌝ }
-{
-    x as usize
-}
 
 // The state of a byte: 0 Free, 1 Waiting, and any other is Blocked.
 fn mode_from(x: u8) -> Mode
@@ -64,7 +47,7 @@ fn row(p: &[u8], at: usize, n: usize) -> [u8; 8]
 }
 
 // The entry of 24 bytes.
-pub fn entry_from(p: &[u8]) -> Entry
+fn entry_from(p: &[u8]) -> Entry
     requires { ⌜ length (now p) ≡ 24 ⌝ }
     requires { ⌜ getD (now p) 6 0 ≤ 8 ⌝ }
     requires { ⌜ getD (now p) 7 0 ≤ 8 ⌝ }
@@ -72,11 +55,11 @@ pub fn entry_from(p: &[u8]) -> Entry
 {
     let nr = p[6];
     let nw = p[7];
-    let n = index(nr);
-    let m = index(nw);
+    let n = bytes::index(nr);
+    let m = bytes::index(nw);
     let reads = row(p, 8, n);
     let writes = row(p, 8 + n, m);
-    let serial = wide(p[1]) * 256 + wide(p[2]);
+    let serial = bytes::wide(p[1]) * 256 + bytes::wide(p[2]);
     let mode = mode_from(p[3]);
     Entry {
         serial: serial,
@@ -88,22 +71,6 @@ pub fn entry_from(p: &[u8]) -> Entry
         nw: nw,
         reads: reads,
         writes: writes,
-    }
-}
-
-// The meter of six bytes and a share.
-pub fn meter_from(p: &[u8], share: u8) -> Meter
-    requires { ⌜ length (now p) ≡ 6 ⌝ }
-    ensures { λ r. ⌜ meterView r ≡ meterFrom (now (p .entry)) share ⌝ }
-{
-    let high = wider(p[0]) * 256 + wider(p[1]);
-    let low = wider(p[2]) * 256 + wider(p[3]);
-    let fuel = high * 65536 + low;
-    let serials = wide(p[4]) * 256 + wide(p[5]);
-    Meter {
-        fuel: fuel,
-        serials: serials,
-        share: share,
     }
 }
 
@@ -130,7 +97,7 @@ fn meters_from(b: &[u8]) -> [Meter; 16]
     while i < 16 {
         let at = 22 + i * 6;
         let end = at + 6;
-        a[i] = meter_from(&b[at..end], b[3 + i]);
+        a[i] = bytes::meter_from(&b[at..end], b[3 + i]);
         i += 1;
     }
     a
@@ -162,7 +129,7 @@ pub fn state(b: &[u8]) -> State
     let cx = counters_from(b, 121);
     let cs = counters_from(b, 380);
     let meters = meters_from(b);
-    let count = index(b[639]);
+    let count = bytes::index(b[639]);
     let entries = entries_from(b, count);
     let said = Said {
         answer: Answer::Nothing,

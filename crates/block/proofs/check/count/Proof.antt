@@ -9,7 +9,7 @@ use Rattle.block.proofs.check.count.Statement.{statement}
 use Rattle.block.proofs.check.count.Tie as tie
 use Rattle.block.proofs.check.count.Reads as reads
 use Rattle.block.proofs.check.count.Lts as lts
-use Rattle.block.proofs.read.index.Reads as index-reads
+use Rattle.block.proofs.bytes.index.Reads as index-reads
 use Rattle.counters.proofs.raise_each.Reads as raise-each-reads
 
 shared-slice-read-index : tie.Need-shared-slice-read-index

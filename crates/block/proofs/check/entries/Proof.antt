@@ -32,7 +32,7 @@ use Rattle.block.proofs.check.given.Reads as given-reads
 use Rattle.block.proofs.check.same.Reads as same-reads
 use Rattle.block.proofs.check.serial.Reads as serial-reads
 use Rattle.block.proofs.check.shares.Reads as shares-reads
-use Rattle.block.proofs.read.index.Reads as index-reads
+use Rattle.block.proofs.bytes.index.Reads as index-reads
 
 abbrev Inv-loop : tie.InvT-loop
 Inv-loop b n last₀ left₀ cx₀ cs₀ i₀ last left cx cs i = (i ≤ n) × Swept b i last left cx cs

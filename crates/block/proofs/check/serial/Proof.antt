@@ -5,7 +5,7 @@ use Rattle.block.proofs.check.serial.Statement.{statement}
 use Rattle.block.proofs.check.serial.Tie as tie
 use Rattle.block.proofs.check.serial.Reads as reads
 use Rattle.block.proofs.check.serial.Lts as lts
-use Rattle.block.proofs.read.wide.Reads as wide-reads
+use Rattle.block.proofs.bytes.wide.Reads as wide-reads
 
 shared-slice-read-wide : tie.Need-shared-slice-read-wide
 shared-slice-read-wide c = search needs

@@ -17,7 +17,7 @@ use Rattle.block.proofs.check.entries.Reads as entries-reads
 use Rattle.block.proofs.check.heads.Reads as heads-reads
 use Rattle.block.proofs.check.tenants.Reads as tenants-reads
 use Rattle.block.proofs.check.zeros.Reads as zeros-reads
-use Rattle.block.proofs.read.index.Reads as index-reads
+use Rattle.block.proofs.bytes.index.Reads as index-reads
 
 -- ---- from each place back
 abbrev headed : tie.After-heads → tie.Else1

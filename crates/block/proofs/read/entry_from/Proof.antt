@@ -11,10 +11,10 @@ use Rattle.block.proofs.read.entry_from.Statement.{statement}
 use Rattle.block.proofs.read.entry_from.Tie as tie
 use Rattle.block.proofs.read.entry_from.Reads as reads
 use Rattle.block.proofs.read.entry_from.Lts as lts
-use Rattle.block.proofs.read.index.Reads as index-reads
+use Rattle.block.proofs.bytes.index.Reads as index-reads
 use Rattle.block.proofs.read.mode_from.Reads as mode-from-reads
 use Rattle.block.proofs.read.row.Reads as row-reads
-use Rattle.block.proofs.read.wide.Reads as wide-reads
+use Rattle.block.proofs.bytes.wide.Reads as wide-reads
 
 shared-slice-read-nr : tie.Need-shared-slice-read-nr
 shared-slice-read-nr c = search needs

@@ -14,7 +14,7 @@ use Rattle.block.proofs.read.meters_from.Statement.{statement}
 use Rattle.block.proofs.read.meters_from.Tie as tie
 use Rattle.block.proofs.read.meters_from.Reads as reads
 use Rattle.block.proofs.read.meters_from.Lts as lts
-use Rattle.block.proofs.read.meter_from.Reads as meter-from-reads
+use Rattle.block.proofs.bytes.meter_from.Reads as meter-from-reads
 use Rattle.meter.proofs.fresh.Reads as fresh-reads
 
 abbrev Inv-loop : tie.InvT-loop

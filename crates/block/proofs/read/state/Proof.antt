@@ -11,7 +11,7 @@ use Rattle.block.proofs.read.state.Reads as reads
 use Rattle.block.proofs.read.state.Lts as lts
 use Rattle.block.proofs.read.counters_from.Reads as counters-from-reads
 use Rattle.block.proofs.read.entries_from.Reads as entries-from-reads
-use Rattle.block.proofs.read.index.Reads as index-reads
+use Rattle.block.proofs.bytes.index.Reads as index-reads
 use Rattle.block.proofs.read.meters_from.Reads as meters-from-reads
 
 whole : (c : tie.Start) → length (c .args .b .now) ≡ 2176

@@ -1,8 +1,8 @@
 -- Six bytes are read, and each call says that a byte is the number it stands for.
 use Rattle.block.specs.Clauses.{meterFrom}
 use borrow.Author.Needs.{needs}
-use Rattle.block.proofs.read.meter_from.Statement.{statement}
-use Rattle.block.proofs.read.meter_from.Tie as tie
+use Rattle.block.proofs.bytes.meter_from.Statement.{statement}
+use Rattle.block.proofs.bytes.meter_from.Tie as tie
 
 shared-slice-read-wider : tie.Need-shared-slice-read-wider
 shared-slice-read-wider c = search needs
