@@ -160,14 +160,14 @@ module _ (b : List ℕ) (small : Small b) (above : AsAbove b) (fits : countIn b 
   last-head : part b 636 4 ≡ head 21 1_537 ++ length (queueIn b) ∷ []
   last-head =
       let there : 3 < length (drop 636 b) = omega (arith, length-drop 636 b, above .whole) in
-      take-suc (drop 636 b) 3 0 there ∙ ap (λ (l : List ℕ). l ++ getD (drop 636 b) 3 0 ∷ []) (above .queue) ∙ ap (λ (x : ℕ). head 21 1_537 ++ x ∷ []) (getD-drop 636 b 3 0 ∙ sym count-is)
+      take-suc (drop 636 b) 3 0 there ∙ ap (λ (l : List ℕ). l ++ getD (drop 636 b) 3 0 ∷ []) (above .heads .queue) ∙ ap (λ (x : ℕ). head 21 1_537 ++ x ∷ []) (getD-drop 636 b 3 0 ∙ sym count-is)
 
   pub block-back : b ≡ blockOf (tableIn b)
   unfolding blockOf
   block-back =
-      let a₁ = next 3 16 (above .shares) (sym shares-back) in
-      let a₂ = next 22 96 (next 19 3 a₁ (above .meters)) (sym meters-back) in
-      let a₃ = next 121 256 (next 118 3 a₂ (above .cx)) (counters .writers) in
-      let a₄ = next 380 256 (next 377 3 a₃ (above .cs)) (counters .readers) in
+      let a₁ = next 3 16 (above .heads .shares) (sym shares-back) in
+      let a₂ = next 22 96 (next 19 3 a₁ (above .heads .meters)) (sym meters-back) in
+      let a₃ = next 121 256 (next 118 3 a₂ (above .heads .cx)) (counters .writers) in
+      let a₄ = next 380 256 (next 377 3 a₃ (above .heads .cs)) (counters .readers) in
       let a₅ = next 640 (n * 24) (next 636 4 a₄ last-head) (sym queue-back) in
       sym (take-append-drop (640 + n * 24) b) ∙ joined a₅ (above .entries ∙ ap (λ (k : ℕ). replicate ((64 - k) * 24) 0) (sym count-is))

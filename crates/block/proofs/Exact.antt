@@ -80,11 +80,7 @@ module _ (t : Table) (s : SoundTable t) where
   to-clauses = record {
     as-above = record {
       whole = block-length t s;
-      shares = head11 t s;
-      meters = head12 t s;
-      cx = head13 t s;
-      cs = head14 t s;
-      queue = head15 t s;
+      heads = record { shares = head11 t s; meters = head12 t s; cx = head13 t s; cs = head14 t s; queue = head15 t s };
       records = rows (each-map (λ e f. entry-rest e (f .lists .few-reads) (f .lists .few-writes)) (s .entries));
       entries = read-unused t s;
     };

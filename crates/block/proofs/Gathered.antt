@@ -8,8 +8,8 @@ use lib.ListN.{length, getD, take, drop, replicate, length-drop}
 use lib.Seq.{take-all}
 use Rattle.rules.specs.Table.{isTenant}
 use Rattle.rules.specs.Sound.{Each}
-use Rattle.block.specs.Clauses.{requestIn, countIn, rowsIn, queueIn, Suits, Clauses}
-use Rattle.block.specs.Check.{Tells, Heads, MetersFit, RowFits, QueueFits}
+use Rattle.block.specs.Clauses.{requestIn, countIn, rowsIn, queueIn, Suited, Clauses, Heads}
+use Rattle.block.specs.Check.{Tells, MetersFit, RowFits, QueueFits}
 use Rattle.block.proofs.Telling.{part-last}
 use Rattle.rules.proofs.Order.{each-map}
 use Rattle.block.proofs.Each.{each-both, each-pair, each-of, each-under}
@@ -28,7 +28,7 @@ module _ (b : List ℕ) (rows : Each RowFits (rowsIn b)) where
   unfolding requestIn
   due = each-of requestIn (rowsIn b) (each-map (λ p f. f .numbers .due) rows)
 
-  suits : Each Suits (queueIn b)
+  suits : Each Suited (queueIn b)
   suits = each-of requestIn (rowsIn b) (each-map (λ p f. f .numbers .suits) rows)
 
 pub gathered : (b : List ℕ) → length b ≡ 2_176 → Heads b → MetersFit b → countIn b ≤ 64 → Unused b → QueueFits b → Clauses b
@@ -37,11 +37,7 @@ gathered b whole heads meters count unused queue =
     record {
       as-above = record {
         whole = whole;
-        shares = heads .shares;
-        meters = heads .meters;
-        cx = heads .cx;
-        cs = heads .cs;
-        queue = heads .queue;
+        heads = heads;
         records = each-map (λ p f. f .lists .rest) rows;
         entries = unused;
       };
@@ -59,9 +55,6 @@ gathered b whole heads meters count unused queue =
 
 -- ---- and each step by the clauses
 module _ {b : List ℕ} (k : Clauses b) where
-  pub heads-of : Heads b
-  heads-of = let a = k .as-above in record { shares = a .shares; meters = a .meters; cx = a .cx; cs = a .cs; queue = a .queue }
-
   pub meters-of : MetersFit b
   meters-of = record { shares = k .shares; fuel = k .limits .fuel }
 

@@ -17,8 +17,8 @@ use Rattle.rules.specs.Table.{Meter, noMeter, mostFuel}
 use Rattle.rules.proofs.Lists.{total-append}
 use Rattle.rules.proofs.Order.{each-at, each-last}
 use Rattle.block.specs.Block.{tab}
-use Rattle.block.specs.Clauses.{part, requestIn, meterFrom, meterAt, modeOf, Same, Suits, RestZero}
-use Rattle.block.specs.Check.{Tells, Allows, MetersFit}
+use Rattle.block.specs.Clauses.{part, requestIn, meterFrom, meterAt, modeOf, Same, Suited, RestZero, Suits}
+use Rattle.block.specs.Check.{Tells, MetersFit}
 use Rattle.block.proofs.Places.{tab-part, tab-length, tab-get, cut-part}
 use Rattle.block.proofs.Telling.{mode-blocked, mode-clear, equal-tells, most-tells, part-last}
 
@@ -137,7 +137,7 @@ module _ (p : List ℕ) (whole : length p ≡ 24) (fr : getD p 6 0 ≤ 8) (fw : 
   unfolding size
   row-size = rw (reads-length, writes-length)
 
-  pub row-suits : Same (Allows (modeOf (getD p 3 0)) (getD p 4 0) (getD p 5 0) (getD p 6 0 + getD p 7 0)) (Suits (requestIn p))
+  pub row-suits : Same (Suits (modeOf (getD p 3 0)) (getD p 4 0) (getD p 5 0) (getD p 6 0 + getD p 7 0)) (Suited (requestIn p))
   unfolding requestIn
   row-suits = record {
     to = λ a. record { free = a .free; waiting = a .waiting; blocked = λ z. rw row-size (a .blocked z) };

@@ -7,8 +7,8 @@ use lib.Dec.{eqb, ltb, leb}
 use borrow.Author.Tests.{eqb-true, eqb-false, ltb-true, ltb-false, leb-true, leb-false, not-true, not-false}
 use Rattle.rules.specs.declared.Mode.the-variants.{Free, Waiting, Blocked}
 use Rattle.rules.specs.Request.{isBlocked}
-use Rattle.block.specs.Clauses.{modeOf}
-use Rattle.block.specs.Check.{Tells, Allows}
+use Rattle.block.specs.Clauses.{modeOf, Suits}
+use Rattle.block.specs.Check.{Tells}
 
 pub tells-no : {P : Type 0} → (P → ⊥) → Tells false P
 tells-no h = record { yes = λ z. absurd (true≢false (sym z)); other = λ z. h }
@@ -53,21 +53,21 @@ mode-clear (suc (suc n)) h = absurd (omega arith)
 
 -- what a state asks for is a test of one number
 module _ (awaited due n : ℕ) where
-  pub free-tells : Tells (eqb due 0) (Allows Free awaited due n)
+  pub free-tells : Tells (eqb due 0) (Suits Free awaited due n)
   free-tells =
       part-last
       (equal-tells due 0)
       (λ e. record { free = λ z. e; waiting = λ z. absurd (true≢false (sym z)); blocked = λ z. absurd (true≢false (sym z)) })
       (λ a. a .free refl)
 
-  pub waiting-tells : Tells (ltb 0 awaited) (Allows Waiting awaited due n)
+  pub waiting-tells : Tells (ltb 0 awaited) (Suits Waiting awaited due n)
   waiting-tells =
       part-last
       (below-tells 0 awaited)
       (λ e. record { free = λ z. absurd (true≢false (sym z)); waiting = λ z. e; blocked = λ z. absurd (true≢false (sym z)) })
       (λ a. a .waiting refl)
 
-  pub blocked-tells : Tells (ltb 0 n) (Allows Blocked awaited due n)
+  pub blocked-tells : Tells (ltb 0 n) (Suits Blocked awaited due n)
   blocked-tells =
       part-last
       (below-tells 0 n)

@@ -1,30 +1,19 @@
 -- What the steps of the check tell.
-use Prim.Native.Nat.{ℕ, _≤_, _<_}
+use Prim.Native.Nat.{ℕ, _≤_}
 use mathlib.Core.Path.{_≡_}
 use mathlib.Core.Bool.{Bool, true, false}
 use mathlib.Core.List.{List}
 use lib.ListN.{getD}
-use Rattle.rules.specs.declared.Mode.{Mode}
 use Rattle.rules.specs.Lists.{total}
-use Rattle.rules.specs.Request.{isFree, isWaiting, isBlocked}
 use Rattle.rules.specs.Records.{WellFormed}
 use Rattle.rules.specs.Table.{isTenant, mostFuel}
 use Rattle.rules.specs.Sound.{Each, InOrder, ClearOf}
-use Rattle.block.specs.Bytes.{head}
-use Rattle.block.specs.Clauses.{requestIn, metersIn, rowsIn, queueIn, part, RestZero, Suits, Tenants, Serials, Counted}
+use Rattle.block.specs.Clauses.{requestIn, metersIn, rowsIn, queueIn, RestZero, Suited, Tenants, Serials, Counted}
 
 -- r says whether it holds
 pub record Tells (r : Bool) (P : Type 0) : Type 0 where
   pub yes : r ≡ true → P
   pub other : r ≡ false → P → ⊥
-
--- the five heads
-pub record Heads (b : List ℕ) : Type 0 where
-  pub shares : part b 0 3 ≡ head 17 16
-  pub meters : part b 19 3 ≡ head 18 96
-  pub cx : part b 118 3 ≡ head 19 256
-  pub cs : part b 377 3 ≡ head 20 256
-  pub queue : part b 636 3 ≡ head 21 1_537
 
 -- the clauses on meters
 pub record MetersFit (b : List ℕ) : Type 0 where
@@ -36,18 +25,12 @@ pub record ListsFit (p : List ℕ) : Type 0 where
   pub lists : WellFormed (requestIn p .reads) (requestIn p .writes)
   pub rest : RestZero p
 
--- by its numbers, what a state asks for
-pub record Allows (mode : Mode) (awaited due n : ℕ) : Type 0 where
-  pub free : isFree mode ≡ true → due ≡ 0
-  pub waiting : isWaiting mode ≡ true → 0 < awaited
-  pub blocked : isBlocked mode ≡ true → 0 < n
-
 pub record NumbersFit (p : List ℕ) : Type 0 where
   pub tenant : isTenant (getD p 0 0) ≡ true
   pub awaited : getD p 4 0 ≤ 15
   pub due : getD p 5 0 ≤ getD p 4 0
   pub state : getD p 3 0 ≤ 2
-  pub suits : Suits (requestIn p)
+  pub suits : Suited (requestIn p)
 
 pub record RowFits (p : List ℕ) : Type 0 where
   pub few-reads : getD p 6 0 ≤ 8

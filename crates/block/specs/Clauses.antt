@@ -78,13 +78,17 @@ tableIn b = record { meters = metersIn b; queue = queueIn b }
 abbrev pub RestZero : List ℕ → Type 0
 RestZero p = let n = getD p 6 0 + getD p 7 0 in drop (8 + n) p ≡ replicate (16 - n) 0
 
-pub record AsAbove (b : List ℕ) : Type 0 where
-  pub whole : length b ≡ 2_176
+-- each field has its head: the tag, and its length
+pub record Heads (b : List ℕ) : Type 0 where
   pub shares : part b 0 3 ≡ head 17 16
   pub meters : part b 19 3 ≡ head 18 96
   pub cx : part b 118 3 ≡ head 19 256
   pub cs : part b 377 3 ≡ head 20 256
   pub queue : part b 636 3 ≡ head 21 1_537
+
+pub record AsAbove (b : List ℕ) : Type 0 where
+  pub whole : length b ≡ 2_176
+  pub heads : Heads b
   pub records : Each RestZero (rowsIn b)
   pub entries : drop (640 + countIn b * 24) b ≡ replicate ((64 - countIn b) * 24) 0
 
@@ -103,10 +107,13 @@ pub record Serials (b : List ℕ) : Type 0 where
   pub to-given : Each (λ e. e .serial ≤ givenBy (tableIn b) (e .tenant)) (queueIn b)
 
 -- a state and what it asks for: "a Free entry has nothing due, a Waiting one awaited above 0, a Blocked one n above 0"
-pub record Suits (e : Request) : Type 0 where
-  pub free : isFree (e .mode) ≡ true → e .due ≡ 0
-  pub waiting : isWaiting (e .mode) ≡ true → 0 < e .awaited
-  pub blocked : isBlocked (e .mode) ≡ true → 0 < size e
+pub record Suits (mode : Mode) (awaited due n : ℕ) : Type 0 where
+  pub free : isFree mode ≡ true → due ≡ 0
+  pub waiting : isWaiting mode ≡ true → 0 < awaited
+  pub blocked : isBlocked mode ≡ true → 0 < n
+
+abbrev pub Suited : Request → Type 0
+Suited e = Suits (e .mode) (e .awaited) (e .due) (size e)
 
 -- "lists keep refusals 3 to 5": the counts themselves too, since the bytes of an entry end after 16 records
 pub record ListsKeep (p : List ℕ) : Type 0 where
@@ -134,7 +141,7 @@ pub record Clauses (b : List ℕ) : Type 0 where
   -- "states are 0 to 2"
   pub states : Each (λ p. getD p 3 0 ≤ 2) (rowsIn b)
   -- "a Free entry has nothing due, a Waiting one awaited above 0, a Blocked one n above 0"
-  pub suits : Each Suits (queueIn b)
+  pub suits : Each Suited (queueIn b)
   -- "lists keep refusals 3 to 5"
   pub lists : Each ListsKeep (rowsIn b)
   -- "Cx and Cs are the queue's"

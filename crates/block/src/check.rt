@@ -8,8 +8,8 @@ ghost use Rattle.rules.specs.Request.{isBlocked};
 ghost use Rattle.rules.specs.Counters.{figure2};
 ghost use Rattle.counters.specs.Counters.{at, Raised, Under};
 ghost use Rattle.block.specs.Block.{SoundBlock};
-ghost use Rattle.block.specs.Clauses.{part, modeOf, requestIn, meterAt, countIn};
-ghost use Rattle.block.specs.Check.{Tells, Heads, MetersFit, Allows, NumbersFit, ListsFit, RowFits, QueueFits};
+ghost use Rattle.block.specs.Clauses.{part, modeOf, requestIn, meterAt, countIn, Heads, Suits};
+ghost use Rattle.block.specs.Check.{Tells, MetersFit, NumbersFit, ListsFit, RowFits, QueueFits};
 use super::bytes;
 
 // Whether a field's head, its tag and its length in two bytes, stands at a place.
@@ -101,7 +101,7 @@ fn tenants(b: &[u8]) -> bool
 
 // "A Free entry has nothing due, a Waiting one awaited above 0, a Blocked one n above 0."
 fn suits(state: u8, awaited: u8, due: u8, n: u8) -> bool
-    ensures { λ r. ⌜ Tells r (Allows (modeOf state) awaited due n) ⌝ }
+    ensures { λ r. ⌜ Tells r (Suits (modeOf state) awaited due n) ⌝ }
 {
     match state {
         0 => due == 0,

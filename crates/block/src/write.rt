@@ -34,7 +34,8 @@ fn byte(x: u32) -> u8
     x as u8
 }
 
-fn mode_byte(m: Mode) -> u8
+// The byte of a state.
+pub fn mode_byte(m: Mode) -> u8
     ensures { λ r. ⌜ r ≡ code m ⌝ }
 {
     match m {

@@ -6,14 +6,12 @@ ghost use lib.ListN.{length};
 ghost use Rattle.rules.specs.Prices.{pricesOf};
 ghost use Rattle.rules.specs.Calls.{beginOf, finishOf, recheckOf, scanOf, openOf, grantOf, pickOf, deliverOf};
 ghost use Rattle.manager.specs.State.{view, Sound};
-ghost use Rattle.block.specs.Bytes.{code};
 ghost use Rattle.block.specs.Block.{blockOf, SoundBlock};
 ghost use Rattle.block.specs.Check.{Tells};
 ghost use Rattle.damsonpouch.specs.Reply.{replyOf, refused15};
 ghost use Rattle.damsonpouch.specs.Linked.{Linked, On, Anew};
 use manager::State;
 use rules::Answer;
-use rules::Mode;
 
 // A reply in numbers. Kind: 0 ok, 1 done, 2 still, 3 nothing, 4 refused, with its number, 5 an entry's state (0 Free, 1 Waiting,
 // 2 Blocked) and name. What a kind does not have is 0.
@@ -25,16 +23,6 @@ pub struct Reply {
     pub tenant: u8,
     pub serial: u16,
     pub burnt: u32,
-}
-
-fn state_byte(m: Mode) -> u8
-    ensures { λ r. ⌜ r ≡ code m ⌝ }
-{
-    match m {
-        Mode::Free => 0,
-        Mode::Waiting => 1,
-        Mode::Blocked => 2,
-    }
 }
 
 fn unnamed(kind: u8, number: u8, burnt: u32) -> Reply
@@ -61,7 +49,7 @@ fn in_numbers(answer: Answer, burnt: u32) -> Reply
         Answer::Nothing => unnamed(3, 0, burnt),
         Answer::Refused(n) => unnamed(4, n, burnt),
         Answer::Named(m, who, serial) => {
-            let state = state_byte(m);
+            let state = block::write::mode_byte(m);
             Reply {
                 kind: 5,
                 number: 0,

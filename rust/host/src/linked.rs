@@ -1,8 +1,9 @@
-//! The functions of `libdamsonpouch.a`, as the archive has them, and safe
-//! functions over them. No other file declares one of them or has `unsafe`.
-//!
-//! Nothing compares these lines with the source that was proved; the tests give
-//! every call, every answer and every refusal through them.
+//! Safe functions over those of `libdamsonpouch.a`. No other file of the crate has
+//! `unsafe` but the declarations themselves.
+
+#[path = "declared.rs"]
+mod declared;
+use declared::*;
 
 /// What a call hands back. `include/damsonpouch.h` has the same for C.
 #[repr(C)]
@@ -19,32 +20,6 @@ pub(crate) struct Reply {
 /// As the C side has it: four bytes, a number in two, two that are not used, a
 /// number in four.
 const _: () = assert!(std::mem::size_of::<Reply>() == 12 && std::mem::align_of::<Reply>() == 4);
-
-extern "C" {
-    fn damsonpouch_open(
-        block: *mut u8,
-        length: usize,
-        shares: *const u8,
-        shares_length: usize,
-    ) -> Reply;
-    fn damsonpouch_grant(block: *mut u8, length: usize, tenant: u8, amount: u32) -> Reply;
-    fn damsonpouch_begin(
-        block: *mut u8,
-        length: usize,
-        tenant: u8,
-        awaited: u8,
-        reads: *const u8,
-        reads_length: usize,
-        writes: *const u8,
-        writes_length: usize,
-    ) -> Reply;
-    fn damsonpouch_finish(block: *mut u8, length: usize, tenant: u8, serial: u16) -> Reply;
-    fn damsonpouch_recheck(block: *mut u8, length: usize, tenant: u8, serial: u16) -> Reply;
-    fn damsonpouch_scan(block: *mut u8, length: usize, tenant: u8) -> Reply;
-    fn damsonpouch_pick(block: *mut u8, length: usize) -> Reply;
-    fn damsonpouch_deliver(block: *mut u8, length: usize, tenant: u8, serial: u16) -> Reply;
-    fn damsonpouch_sound(block: *const u8, length: usize) -> bool;
-}
 
 // What every call below rests on: it asks for a block that is valid to read and
 // write for `length` bytes and that nobody else uses while the call runs, and

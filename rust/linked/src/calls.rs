@@ -4,6 +4,10 @@
 use inblock::Reply;
 use std::slice;
 
+#[path = "../../host/src/declared.rs"]
+mod declared;
+use declared::*;
+
 type Named = unsafe extern "C" fn(*mut u8, usize, u8, u16) -> Reply;
 
 pub struct Calls {
@@ -17,32 +21,6 @@ pub struct Calls {
     pub pick: unsafe extern "C" fn(*mut u8, usize) -> Reply,
     pub deliver: Named,
     pub sound: unsafe extern "C" fn(*const u8, usize) -> bool,
-}
-
-extern "C" {
-    fn damsonpouch_open(
-        block: *mut u8,
-        length: usize,
-        shares: *const u8,
-        shares_length: usize,
-    ) -> Reply;
-    fn damsonpouch_grant(block: *mut u8, length: usize, tenant: u8, amount: u32) -> Reply;
-    fn damsonpouch_begin(
-        block: *mut u8,
-        length: usize,
-        tenant: u8,
-        awaited: u8,
-        reads: *const u8,
-        reads_length: usize,
-        writes: *const u8,
-        writes_length: usize,
-    ) -> Reply;
-    fn damsonpouch_finish(block: *mut u8, length: usize, tenant: u8, serial: u16) -> Reply;
-    fn damsonpouch_recheck(block: *mut u8, length: usize, tenant: u8, serial: u16) -> Reply;
-    fn damsonpouch_scan(block: *mut u8, length: usize, tenant: u8) -> Reply;
-    fn damsonpouch_pick(block: *mut u8, length: usize) -> Reply;
-    fn damsonpouch_deliver(block: *mut u8, length: usize, tenant: u8, serial: u16) -> Reply;
-    fn damsonpouch_sound(block: *const u8, length: usize) -> bool;
 }
 
 /// The proved library.

@@ -5,7 +5,7 @@ use Rattle.damsonpouch.proofs.in_numbers.Statement.{statement}
 use Rattle.damsonpouch.proofs.in_numbers.Tie as tie
 use Rattle.damsonpouch.proofs.in_numbers.Reads as reads
 use Rattle.damsonpouch.proofs.in_numbers.Lts as lts
-use Rattle.damsonpouch.proofs.state_byte.Reads as state-byte-reads
+use Rattle.block.proofs.write.mode_byte.Reads as mode-byte-reads
 use Rattle.damsonpouch.proofs.unnamed.Reads as unnamed-reads
 
 enum-told : tie.Need-enum-told
@@ -41,8 +41,8 @@ unnamed-requires-5 c κs = search needs
 enum-known-answer-2 : tie.Need-enum-known-answer-2
 enum-known-answer-2 c = search needs
 
-state-byte-requires : tie.Need-state-byte-requires
-state-byte-requires c κs = search needs
+mode-byte-requires : tie.Need-mode-byte-requires
+mode-byte-requires c κs = search needs
 
 returns : tie.Need-returns
 returns c = c .unnamed .ensures ∙ rw (c .before .enum-told .given .1)
@@ -60,7 +60,7 @@ returns-5 : tie.Need-returns-5
 returns-5 c = rw (c .before .before .answer .given .1) (c .unnamed5 .ensures)
 
 returns-6 : tie.Need-returns-6
-returns-6 c = rw (c .before .before .answer2 .given .1) (rw (c .state-byte .ensures))
+returns-6 c = rw (c .before .before .answer2 .given .1) (rw (c .mode-byte .ensures))
 
 pub in-numbers-spec : {M : Type 1} → statement M
 in-numbers-spec =
@@ -77,7 +77,7 @@ in-numbers-spec =
     enum-known-answer
     unnamed-requires-5
     enum-known-answer-2
-    state-byte-requires
+    mode-byte-requires
     returns
     returns-2
     returns-3

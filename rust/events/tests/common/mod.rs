@@ -1,9 +1,11 @@
-//! What several test files need: generated files, and a walk over one file
-//! with the state before and after each call.
+//! What several test files need: generated files, a walk over one file with the
+//! state before and after each call, and a program's run.
 #![allow(dead_code)]
 
 use events::kinds::{generate, Kind, KINDS};
 use second::{apply, Answer, Entry, Event, FileRefusal, Outcome, Reader, State, Table};
+use std::io::Write;
+use std::process::{Command, Output, Stdio};
 
 /// Files of every kind, from seeds 0 up to `seeds` - 1.
 pub fn batch(seeds: u64) -> impl Iterator<Item = (String, Vec<u8>)> {
@@ -72,4 +74,20 @@ pub fn walk(file: &[u8], mut see: impl FnMut(&Step<'_>)) -> Option<FileRefusal> 
         });
     }
     None
+}
+
+/// Runs a program with this input.
+pub fn run(program: &str, arguments: &[&str], input: &[u8]) -> Output {
+    let mut child = Command::new(program)
+        .args(arguments)
+        .stdin(Stdio::piped())
+        .stdout(Stdio::piped())
+        .stderr(Stdio::piped())
+        .spawn()
+        .expect("the program starts");
+    let mut stdin = child.stdin.take().expect("its input is a pipe");
+    // A program that ends before it reads is told apart by its output.
+    let _ = stdin.write_all(input);
+    drop(stdin);
+    child.wait_with_output().expect("it ends")
 }

@@ -7,7 +7,7 @@ use Rattle.block.specs.Clauses.{countIn}
 use Rattle.block.specs.Check.{Tells}
 use Rattle.block.proofs.Telling.{tells-no, part-fails, part-holds, part-last}
 use Rattle.block.proofs.Exact.{clauses-tell, sound-clauses}
-use Rattle.block.proofs.Gathered.{Unused, gathered, heads-of, meters-of, queue-of, unused-told}
+use Rattle.block.proofs.Gathered.{Unused, gathered, meters-of, queue-of, unused-told}
 use borrow.Author.Needs.{needs}
 use Rattle.block.proofs.check.sound.Statement.{statement}
 use Rattle.block.proofs.check.sound.Tie as tie
@@ -52,7 +52,7 @@ heads-requires : tie.Need-heads-requires
 heads-requires c κs = whole c
 
 returns-2 : tie.Need-returns-2
-returns-2 c = part-fails (c .before .heads .ensures) (c .if2 .taken) (λ k. heads-of (sound-clauses k))
+returns-2 c = part-fails (c .before .heads .ensures) (c .if2 .taken) (λ k. sound-clauses k .as-above .heads)
 
 tenants-requires : tie.Need-tenants-requires
 tenants-requires c κs = whole (headed (c .before))

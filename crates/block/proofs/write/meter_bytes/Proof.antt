@@ -1,3 +1,4 @@
+-- Byte by byte, from the high one.
 use borrow.Author.Needs.{needs}
 use Rattle.block.specs.Bytes.{meterBytes}
 use Rattle.block.proofs.write.meter_bytes.Statement.{statement}

@@ -15,6 +15,16 @@ use Rattle.block.proofs.write.put_lists.Reads as reads
 use Rattle.block.proofs.write.put_lists.Lts as lts
 use Rattle.block.proofs.write.put.Reads as put-reads
 
+-- from each step back to the one before it, and to the start
+abbrev begun : tie.After-put → tie.Start
+begun c = c .before .before .before .before .before
+
+abbrev read : tie.After-put2 → tie.After-put
+read c = c .before .before .before .before .before
+
+abbrev zeroed : tie.After-writes2 → tie.After-put2
+zeroed c = c .before .before .before .before .before .before
+
 lists : (c : tie.Start) → Lists (c .args .e)
 lists c = entry-lists (c .args .e) _ (c .good .1 .1 .0)
 
@@ -44,7 +54,7 @@ slice-aggregate-put-3 c = search needs
 
 put-requires-3 : tie.Need-put-requires-3
 put-requires-3 c κs =
-    let s = c .before .before .before .before .before .before .before .before .before .before .before .before .before .before .before .before in
+    let s = begun (read (zeroed c)) in
     omega (arith, lists s .writes .size, s .pre .1 .few-reads)
 
 same-length : tie.Need-same-length
@@ -53,9 +63,9 @@ same-length c = search needs
 returns : tie.Need-returns
 returns c =
     let w = c .before .before in
-    let z = w .before .before .before .before .before .before .before in
-    let r = z .before .before .before .before .before in
-    let s = r .before .before .before .before .before in
+    let z = zeroed (w .before) in
+    let r = read z in
+    let s = begun r in
     let e = s .args .e in
     let l = lists s in
     let t = s .pre .1 in

@@ -1,3 +1,4 @@
+-- A head with the count, the entries, and zeros up to the end.
 use borrow.Author.Needs.{needs}
 use Prim.Native.Nat.{ℕ, _+_, _*_, _-_}
 use mathlib.Core.Path.{ap, _∙_}

@@ -1,3 +1,4 @@
+-- After i turns the first i shares are written.
 use borrow.Author.Needs.{needs}
 use Prim.Native.Nat.{_-_, _≤_, _<_}
 use mathlib.Core.Path.{_≡_, refl, sym, ap, _∙_}
@@ -50,14 +51,19 @@ add-i c = search needs
 loop-less : tie.Need-loop-less Inv-loop μ-loop
 loop-less c = search needs
 
+-- from the put back to the loop
+abbrev turn : tie.After-put Inv-loop μ-loop → tie.At-loop Inv-loop μ-loop
+turn c = c .before .before .before .before .before
+
 loop-again : tie.Need-loop-again Inv-loop μ-loop
 loop-again c =
-    let a = c .before .before .before .before .before .before .before in
+    let w = c .before .before in
+    let a = turn w in
     let s = a .before .before in
     let ms = s .args .t2 in
     let i = a .loop .i in
     let there : i < length (map meterView ms) = omega (arith, sixteen s) in
-    (search needs, rows-put _ _ _ _ (a .loop .inv .1) (meterView noMeter) there (ap shareByte (sym (List·getD-map meterView ms i noMeter))) refl (omega (arith, a .loop .inv .1 .size)) (c .before .before .put .ensures))
+    (search needs, rows-put _ _ _ _ (a .loop .inv .1) (meterView noMeter) there (ap shareByte (sym (List·getD-map meterView ms i noMeter))) refl (omega (arith, a .loop .inv .1 .size)) (w .put .ensures))
 
 same-length : tie.Need-same-length Inv-loop μ-loop
 same-length c = c .before .loop .inv .1 .size

@@ -1,3 +1,4 @@
+-- A head and the shares, a head and the meters, each behind what stands before it.
 use borrow.Author.Needs.{needs}
 use Prim.Native.Nat.{ℕ, _+_, _-_}
 use mathlib.Core.Path.{ap, _∙_}

@@ -1,3 +1,4 @@
+-- As many zeros are put as are left up to the end.
 use borrow.Author.Needs.{needs}
 use Prim.Native.Nat.{_-_}
 use mathlib.Core.Path.{sym}

@@ -1,3 +1,4 @@
+-- Field behind field: what stands at the end is the block of the state's table.
 use borrow.Author.Needs.{needs}
 use Rattle.manager.proofs.Typed.{state-sized}
 use Rattle.block.proofs.Encoding.{encoded}
@@ -24,12 +25,22 @@ put-queue-requires c κs = search needs
 same-length : tie.Need-same-length
 same-length c = search needs
 
+-- from each field back to the one before it
+abbrev readers : tie.After-put-queue → tie.After-put-counters2
+readers c = c .before .before .before .before .before
+
+abbrev writers : tie.After-put-counters2 → tie.After-put-counters
+writers c = c .before .before .before .before .before
+
+abbrev tenants : tie.After-put-counters → tie.After-put-tenants
+tenants c = c .before .before .before .before .before
+
 returns : tie.Need-returns
 returns c =
     let q = c .before .before in
-    let y = q .before .before .before .before .before in
-    let x = y .before .before .before .before .before in
-    let m = x .before .before .before .before .before in
+    let y = readers q in
+    let x = writers y in
+    let m = tenants x in
     let s = m .before .before .before .before in
     encoded (s .args .s) (state-sized (s .args .s) _ (s .good .1 .0)) (s .pre .0) (m .put-tenants .ensures) (x .put-counters .ensures) (y .put-counters2 .ensures) (q .put-queue .ensures)
 
