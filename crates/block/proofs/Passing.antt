@@ -137,7 +137,7 @@ module _ (p : List ℕ) (whole : length p ≡ 24) (fr : getD p 6 0 ≤ 8) (fw : 
   unfolding size
   row-size = rw (reads-length, writes-length)
 
-  pub row-suits : Same (Suits (modeOf (getD p 3 0)) (getD p 4 0) (getD p 5 0) (getD p 6 0 + getD p 7 0)) (Suited (requestIn p))
+  pub row-suits : Same (Suits (modeOf (getD p 3 0)) (getD p 5 0) (getD p 6 0 + getD p 7 0)) (Suited (requestIn p))
   unfolding requestIn
   row-suits = record {
     to = λ a. record { free = a .free; waiting = a .waiting; blocked = λ z. rw row-size (a .blocked z) };

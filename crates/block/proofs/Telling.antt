@@ -52,22 +52,22 @@ mode-clear (suc zero) h = refl
 mode-clear (suc (suc n)) h = absurd (omega arith)
 
 -- what a state asks for is a test of one number
-module _ (awaited due n : ℕ) where
-  pub free-tells : Tells (eqb due 0) (Suits Free awaited due n)
+module _ (due n : ℕ) where
+  pub free-tells : Tells (eqb due 0) (Suits Free due n)
   free-tells =
       part-last
       (equal-tells due 0)
       (λ e. record { free = λ z. e; waiting = λ z. absurd (true≢false (sym z)); blocked = λ z. absurd (true≢false (sym z)) })
       (λ a. a .free refl)
 
-  pub waiting-tells : Tells (ltb 0 awaited) (Suits Waiting awaited due n)
+  pub waiting-tells : Tells (ltb 0 due) (Suits Waiting due n)
   waiting-tells =
       part-last
-      (below-tells 0 awaited)
+      (below-tells 0 due)
       (λ e. record { free = λ z. absurd (true≢false (sym z)); waiting = λ z. e; blocked = λ z. absurd (true≢false (sym z)) })
       (λ a. a .waiting refl)
 
-  pub blocked-tells : Tells (ltb 0 n) (Suits Blocked awaited due n)
+  pub blocked-tells : Tells (ltb 0 n) (Suits Blocked due n)
   blocked-tells =
       part-last
       (below-tells 0 n)

@@ -106,14 +106,15 @@ pub record Serials (b : List ℕ) : Type 0 where
   pub from-one : Each (λ e. 1 ≤ e .serial) (queueIn b)
   pub to-given : Each (λ e. e .serial ≤ givenBy (tableIn b) (e .tenant)) (queueIn b)
 
--- a state and what it asks for: "a Free entry has nothing due, a Waiting one awaited above 0, a Blocked one n above 0"
-pub record Suits (mode : Mode) (awaited due n : ℕ) : Type 0 where
+-- a state and what it asks for: "a Free entry has nothing due, ... a Blocked one n above 0"; item 2: the block "refuses a Waiting
+-- entry with nothing due", and so, by the clause on due, one with nothing awaited
+pub record Suits (mode : Mode) (due n : ℕ) : Type 0 where
   pub free : isFree mode ≡ true → due ≡ 0
-  pub waiting : isWaiting mode ≡ true → 0 < awaited
+  pub waiting : isWaiting mode ≡ true → 0 < due
   pub blocked : isBlocked mode ≡ true → 0 < n
 
 abbrev pub Suited : Request → Type 0
-Suited e = Suits (e .mode) (e .awaited) (e .due) (size e)
+Suited e = Suits (e .mode) (e .due) (size e)
 
 -- "lists keep refusals 3 to 5": the counts themselves too, since the bytes of an entry end after 16 records
 pub record ListsKeep (p : List ℕ) : Type 0 where
@@ -140,7 +141,7 @@ pub record Clauses (b : List ℕ) : Type 0 where
   pub serials : Serials b
   -- "states are 0 to 2"
   pub states : Each (λ p. getD p 3 0 ≤ 2) (rowsIn b)
-  -- "a Free entry has nothing due, a Waiting one awaited above 0, a Blocked one n above 0"
+  -- "a Free entry has nothing due, ... a Blocked one n above 0", and a Waiting one has an answer due
   pub suits : Each Suited (queueIn b)
   -- "lists keep refusals 3 to 5"
   pub lists : Each ListsKeep (rowsIn b)

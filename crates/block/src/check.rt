@@ -99,13 +99,13 @@ fn tenants(b: &[u8]) -> bool
     places <= 64
 }
 
-// "A Free entry has nothing due, a Waiting one awaited above 0, a Blocked one n above 0."
-fn suits(state: u8, awaited: u8, due: u8, n: u8) -> bool
-    ensures { λ r. ⌜ Tells r (Suits (modeOf state) awaited due n) ⌝ }
+// A Free entry has nothing due, a Waiting one an answer due, a Blocked one n above 0.
+fn suits(state: u8, due: u8, n: u8) -> bool
+    ensures { λ r. ⌜ Tells r (Suits (modeOf state) due n) ⌝ }
 {
     match state {
         0 => due == 0,
-        1 => 0 < awaited,
+        1 => 0 < due,
         _ => 0 < n,
     }
 }
@@ -132,7 +132,7 @@ fn numbers_fit(p: &[u8]) -> bool
     if 2 < p[3] {
         return false;
     }
-    suits(p[3], p[4], p[5], p[6] + p[7])
+    suits(p[3], p[5], p[6] + p[7])
 }
 
 // The clauses on an entry's lists, and its unused records.

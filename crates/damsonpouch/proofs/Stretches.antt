@@ -10,7 +10,7 @@ use Rattle.rules.specs.Prices.{clause9}
 use Rattle.rules.specs.Calls.{Outcome, openOf}
 use Rattle.rules.specs.Sound.{Each, SoundTable}
 use Rattle.rules.specs.Sound.Each.{none, also}
-use Rattle.rules.specs.Runs.{Call, Run, step, isOpen, opened, after, runOf}
+use Rattle.rules.specs.Runs.{Call, Run, step, isOpen, from, opened, after, runOf}
 use Rattle.rules.specs.Runs.Call.{Begin, Finish, Recheck, Scan, Open, Grant, Pick, Deliver}
 use Rattle.rules.proofs.Tests.{both}
 use Rattle.manager.specs.Runs.{outcomesOf}
@@ -19,7 +19,7 @@ use Rattle.block.proofs.Whole.{block-length}
 use Rattle.damsonpouch.specs.declared.Reply.{Reply}
 use Rattle.damsonpouch.specs.Reply.{replyOf, refused15}
 use Rattle.damsonpouch.specs.Linked.{Anew}
-use Rattle.damsonpouch.specs.Stretches.{Has, Made, uncalled, called, Stretch, IsRun, from, OfStretch, EveryStretch}
+use Rattle.damsonpouch.specs.Stretches.{Has, Made, uncalled, called, Stretch, IsRun, OfStretch, EveryStretch}
 
 -- ---- on a sound block each call has the law book's outcome
 pub has-step : (c : Call) (t : Table) {b : List ℕ} → SoundTable t → b ≡ blockOf t → Has c b (step clause9 t c)

@@ -12,7 +12,7 @@ use Rattle.rules.specs.Table.{Table}
 use Rattle.rules.specs.Prices.{clause9, pricesOf}
 use Rattle.rules.specs.Calls.{Outcome, openOf}
 use Rattle.rules.specs.Sound.{Each, SoundTable}
-use Rattle.rules.specs.Runs.{Call, Run, step, isOpen, opened, runOf}
+use Rattle.rules.specs.Runs.{Call, Run, step, isOpen, from, opened, runOf}
 use Rattle.rules.specs.Runs.Call.{Begin, Finish, Recheck, Scan, Open, Grant, Pick, Deliver}
 use Rattle.manager.specs.Runs.{outcomesOf}
 use Rattle.block.specs.Block.{blockOf, SoundBlock}
@@ -51,9 +51,6 @@ pub record Stretch : Type 0 where
 pub record IsRun (run : Run) (calls : List Call) (rs : List Reply) (last : List ℕ) : Type 0 where
   pub block : last ≡ blockOf (runOf clause9 run calls .table)
   pub replies : rs ≡ map (λ o. replyOf (o .answer) (o .burnt)) (outcomesOf clause9 (run .table) calls)
-
-abbrev pub from : Table → Run
-from t = record { table = t; steps = [] }
 
 pub record OfStretch (s : Stretch) : Type 0 where
   pub sound : (t : Table) → SoundTable t → s .first ≡ blockOf t → IsRun (from t) (s .calls) (s .replies) (s .last)

@@ -7,12 +7,14 @@ use Rattle.rules.specs.Sound.{Each}
 use Rattle.rules.specs.Runs.{Call, Run, isOpen, runOf}
 use Rattle.rules.proofs.Tests.{if-either}
 use Rattle.rules.proofs.Order.{each-map}
+use Rattle.rules.proofs.Sound.{sound-any}
 use Rattle.promises.specs.Fuel.{PricesPaid, Balanced, Counted}
 use Rattle.promises.specs.Names.{NamesDiffer, HasLeft, isQueued}
+use Rattle.promises.specs.Drains.{NoneHangs, draining, Drained}
 use Rattle.promises.specs.Promises.{Promises}
 use Rattle.promises.proofs.Promises.{at-clause9}
 use Rattle.manager.specs.declared.State.{State}
-use Rattle.manager.specs.State.{Sound}
+use Rattle.manager.specs.State.{view, Sound}
 use Rattle.manager.specs.Runs.{CodeRun, Ran, uncalled, called, seenRun}
 use Rattle.manager.proofs.Runs.{ran-run, code-runs-faithfully}
 use Rattle.demands.specs.OfCalls.{Made}
@@ -40,4 +42,8 @@ every-run shares first cs rs last real =
       names-stay-away = λ who serial more outcomes end left shut ran.
           let law = of (λ r. HasLeft who serial r → isQueued who serial (runOf clause9 r more .table) ≡ false) (λ h. promised .never-back shares cs more who serial h shut) in
           ap (λ (r : Run). isQueued who serial (r .table)) (sym (ran-run ran)) ∙ law left;
+      none-hangs = of (λ r. NoneHangs (r .table)) (promised .never-hangs shares cs);
+      drains = λ outcomes end ran.
+          let t = view (last .state) in
+          subst (Drained t (draining (t .queue))) (ran-run ran) (promised .drains t (sound-any (faithful .last-sound .table)));
     }

@@ -11,9 +11,10 @@ use Rattle.rules.specs.Sound.{Each}
 use Rattle.rules.specs.Runs.{Call, isOpen}
 use Rattle.promises.specs.Fuel.{PricesPaid, Balanced, Counted}
 use Rattle.promises.specs.Names.{NamesDiffer, HasLeft, isQueued}
+use Rattle.promises.specs.Drains.{NoneHangs, draining, Drained}
 use Rattle.manager.specs.declared.State.{State}
 use Rattle.manager.specs.State.{view, Sound}
-use Rattle.manager.specs.Runs.{CodeRun, Ran, RealRun, seenRun}
+use Rattle.manager.specs.Runs.{CodeRun, codeOpened, Ran, RealRun, seenRun}
 use Rattle.demands.specs.OfCalls.{OfCall}
 
 -- "serials ... never given twice": a name that was in the queue and has left does not come back before the next Open
@@ -24,6 +25,14 @@ NamesStayAway last =
     every (λ c. not (isOpen c)) more ≡ true →
     Ran last more rs end →
     isQueued who serial (view (end .state)) ≡ false
+
+-- document 02, item 2: the queue can be emptied, by these calls one after another from the state as it is, whatever the tenants' fuel
+abbrev pub CanDrain : State → Type 0
+CanDrain s =
+    let calls = draining (view s .queue) in
+    (rs : List State) (end : CodeRun) →
+    Ran (codeOpened s) calls rs end →
+    Drained (view s) calls (seenRun end)
 
 pub record OfRun (last : CodeRun) : Type 0 where
   -- every call since the opening, and the state now
@@ -38,6 +47,9 @@ pub record OfRun (last : CodeRun) : Type 0 where
   -- no name is given twice
   pub names : NamesDiffer (seenRun last .steps)
   pub names-stay-away : NamesStayAway last
+  -- document 02, item 2: no request hangs, and all can leave
+  pub none-hangs : NoneHangs (view (last .state))
+  pub drains : CanDrain (last .state)
 
 abbrev pub EveryRun : Type 0
 EveryRun =

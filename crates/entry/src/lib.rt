@@ -175,12 +175,12 @@ fn changed(e: Entry, mode: Mode, due: u8) -> Entry
     }
 }
 
-// The entry once it is promoted.
+// The entry once it is promoted: Waiting only if an answer is still due, otherwise Free.
 pub fn promoted(e: Entry) -> Entry
     requires { ⌜ Tidy e ⌝ }
     ensures { λ r. ⌜ Stands (promotedOf (request e)) r ⌝ }
 {
-    if 0 < e.awaited {
+    if 0 < e.due {
         changed(e, Mode::Waiting, e.due)
     } else {
         changed(e, Mode::Free, e.due)

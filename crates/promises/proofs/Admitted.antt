@@ -42,5 +42,5 @@ unfolding pickOf promoted
 picks t e q b = record {
   answer = simp (b .front, b .blocked);
   queue = simp (b .front, b .blocked);
-  runs = if-either (λ (m : Mode). isBlocked m ≡ false) (ltb 0 (e .awaited)) refl refl;
+  runs = if-either (λ (m : Mode). isBlocked m ≡ false) (ltb 0 (e .due)) refl refl;
 }

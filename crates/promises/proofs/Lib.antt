@@ -8,4 +8,6 @@ pub mod Admitted
 pub mod Numbers
 pub mod Changes
 pub mod Names
+pub mod Drains
+pub mod Hung
 pub mod Promises

@@ -15,6 +15,7 @@ use Rattle.promises.proofs.Search.{search-price, search-most, search-pr
 use Rattle.promises.proofs.Admitted.{admits, finishes, picks}
 use Rattle.promises.proofs.Numbers.{prices9, charged9}
 use Rattle.promises.proofs.Names.{own-names, two-names, never-back}
+use Rattle.promises.proofs.Drains.{never-hangs, drains, always-drains}
 
 pub promises : {p : Prices} → Fair p → Promises p
 promises {p} f = record {
@@ -40,6 +41,9 @@ promises {p} f = record {
   own-names = own-names p;
   two-names = two-names p;
   never-back = never-back p;
+  never-hangs = never-hangs p;
+  drains = drains f;
+  always-drains = always-drains f;
 }
 
 pub clause9-fair : Fair clause9

@@ -4,4 +4,6 @@ pub mod Refused
 pub mod Searches
 pub mod Places
 pub mod Names
+pub mod Drains
+pub mod Hung
 pub mod Promises

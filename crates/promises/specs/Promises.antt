@@ -11,6 +11,7 @@ use Rattle.promises.specs.Searches.{SearchPromotes, SearchEnds, SearchNo
 use Rattle.promises.specs.Searches.{SearchPrice, SearchMost, SearchPrice9, SearchMost9}
 use Rattle.promises.specs.Places.{Admits, Finishes, Picks}
 use Rattle.promises.specs.Names.{OwnNames, TwoNames, NeverBack}
+use Rattle.promises.specs.Drains.{NeverHangs, Drains, AlwaysDrains}
 
 -- 9 the states reached are sound, and name no records but those that the calls named
 abbrev pub AllSound : Prices → Type 1
@@ -52,6 +53,11 @@ pub record Promises (p : Prices) : Type 1 where
   pub own-names : OwnNames p
   pub two-names : TwoNames p
   pub never-back : NeverBack p
+  -- 11
+  pub never-hangs : NeverHangs p
+  -- 12
+  pub drains : Drains p
+  pub always-drains : AlwaysDrains p
 
 pub record AtClause9 : Type 1 where
   pub all : Promises clause9

@@ -83,12 +83,12 @@ burn-none who t =
     ap (λ (ms : List Meter). record { meters = ms; queue = t .queue }) (ap (set (t .meters) (who - 1)) m ∙ set-getD (t .meters) (who - 1) noMeter)
 
 -- ---- one entry
--- a running entry is fit, whatever its state was: Waiting with awaited above 0, Free with nothing due
+-- a running entry is fit, whatever its state was: Waiting with an answer due, Free with none
 pub promoted-fit : (given : ℕ → ℕ) (e : Request) → e .awaited ≤ 15 → e .due ≤ e .awaited → isTenant (e .tenant) ≡ true → 1 ≤ e .serial → e .serial ≤ given (e .tenant) → WellFormed (e .reads) (e .writes) → Fit given (promoted e)
 unfolding promoted
-promoted-fit given e awaited due tenant from-one to-given lists = go (ltb 0 (e .awaited)) refl
+promoted-fit given e awaited due tenant from-one to-given lists = go (ltb 0 (e .due)) refl
   where
-    go : (b : Bool) → ltb 0 (e .awaited) ≡ b → Fit given (withMode e (if b then Waiting else Free))
+    go : (b : Bool) → ltb 0 (e .due) ≡ b → Fit given (withMode e (if b then Waiting else Free))
     go true above = record {
       awaited = awaited;
       due = due;
@@ -96,7 +96,7 @@ promoted-fit given e awaited due tenant from-one to-given lists = go (ltb 0 (e .
       from-one = from-one;
       to-given = to-given;
       free = λ (z : false ≡ true). cc;
-      waiting = λ z. ltb-true 0 (e .awaited) above;
+      waiting = λ z. ltb-true 0 (e .due) above;
       blocked = λ (z : false ≡ true). let k : _≡_ {A = ℕ} 0 1 = cc in absurd (omega arith);
       lists = lists;
     }
@@ -106,7 +106,7 @@ promoted-fit given e awaited due tenant from-one to-given lists = go (ltb 0 (e .
       tenant = tenant;
       from-one = from-one;
       to-given = to-given;
-      free = λ z. omega (arith, due, ltb-false 0 (e .awaited) none);
+      free = λ z. omega (arith, ltb-false 0 (e .due) none);
       waiting = λ (z : false ≡ true). let k : _≡_ {A = ℕ} 0 1 = cc in absurd (omega arith);
       blocked = λ (z : false ≡ true). let k : _≡_ {A = ℕ} 0 1 = cc in absurd (omega arith);
       lists = lists;

@@ -20,7 +20,7 @@ use Rattle.rules.specs.Calls.{toPay, withoutEntry, withEntry, asked, joi
 use Rattle.rules.specs.Runs.{Call, step, recordsOf}
 use Rattle.rules.specs.Runs.Call.{Begin, Finish, Recheck, Scan, Open, Grant, Pick, Deliver}
 use Rattle.rules.specs.Sound.{Each, InOrder, Fit, SoundBy, SoundAny, Names, SerialsRise, ClearOf, givenBy}
-use Rattle.rules.proofs.Tests.{both, neither, if-cases}
+use Rattle.rules.proofs.Tests.{both, neither, if-cases, above-zero}
 use Rattle.rules.proofs.Lists.{some-append}
 use Rattle.rules.proofs.Requests.{delivered-as, conflict-size}
 use Rattle.rules.proofs.Meters.{meter-own}
@@ -131,7 +131,7 @@ delivered-fit given e f some-due = rw (delivered-as e) (go (isWaiting (e .mode) 
       from-one = f .from-one;
       to-given = f .to-given;
       free = λ z. absurd (eqb-false (e .due) 0 some-due (f .free z));
-      waiting = f .waiting;
+      waiting = λ z. let k : eqb (e .due - 1) 0 ≡ false = rw z at more in above-zero _ (eqb-false _ 0 k);
       blocked = f .blocked;
       lists = f .lists;
     }

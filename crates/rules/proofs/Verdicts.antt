@@ -1,4 +1,5 @@
--- The counters and the maps tell conflicts: figure 2's verdict at Begin, Recheck's condition, and the maps of the search.
+-- The counters and the maps tell conflicts: figure 2's verdict at Begin, Recheck's condition, and the maps of the search; and the
+-- state that a Begin gives.
 use Prim.Native.Nat.{ℕ, _+_}
 use mathlib.Core.Path.{_≡_, refl, sym, ap, _∙_}
 use mathlib.Core.Bool.{Bool, true, false, _&&_, _||_, not}
@@ -6,12 +7,13 @@ use mathlib.Core.List.{List, [], _∷_, _++_}
 use native.Mathlib.Omega.{arith}
 use lib.Dec.{eqb, ltb}
 use lib.ListN.{getD}
-use Rattle.rules.specs.Lists.{some, every}
+use Rattle.rules.specs.declared.Mode.the-variants.{Free, Waiting, Blocked}
+use Rattle.rules.specs.Lists.{if_then_else_, some, every}
 use Rattle.rules.specs.Records.{member, meets}
-use Rattle.rules.specs.Request.{Request, nobody, conflictsAny}
+use Rattle.rules.specs.Request.{Request, nobody, requested, conflictsAny, withMode, promoted, admitted}
 use Rattle.rules.specs.Counters.{cx, cs, figure2, alone}
 use Rattle.rules.specs.Calls.{withoutEntry}
-use Rattle.rules.specs.Verdicts.{Figure2Tells, RecheckTells, MapsTell}
+use Rattle.rules.specs.Verdicts.{Figure2Tells, BeginTells, RecheckTells, MapsTell}
 use Rattle.rules.specs.Scan.{Maps, noRecords, mapped, mapsOver, clearBy}
 use Rattle.rules.proofs.Tests.{one, or-assoc, or-false, not-or, above-one, zero-above, one-own, and-comm}
 use Rattle.rules.proofs.Lists.{some-cong, some-in, every-in, every-some, every-and, some-or, count-above, count-last, count-without, apart-at, meets-sym}
@@ -80,6 +82,15 @@ pub figure2-conflicts : Figure2Tells
 figure2-conflicts q e f =
     let own : Own e (cx q) (cs q) (cx (q ++ e ∷ [])) (cs (q ++ e ∷ [])) = record { writes = λ k. count-last (λ (a : Request). member k (a .writes)) q e; reads = λ k. count-last (λ (a : Request). member k (a .reads)) q e } in
     own-figure2 own (f .apart) ∙ counts-clash q e
+
+-- and the state that it gives: where nothing conflicts, the rule of a promotion finds all the awaited answers due
+pub begin-tells : BeginTells
+unfolding admitted promoted
+begin-tells q who serial awaited reads writes = go (conflictsAny q (requested who serial awaited reads writes))
+  where
+    go : (b : Bool) → let e = requested who serial awaited reads writes in (if b then e else withMode e (if ltb 0 awaited then Waiting else Free)) .mode ≡ (if b then Blocked else (if ltb 0 awaited then Waiting else Free))
+    go true = refl
+    go false = refl
 
 -- Recheck: its condition is that no other entry, ahead or behind, conflicts.
 pub alone-conflicts : RecheckTells

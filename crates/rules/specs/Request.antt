@@ -89,12 +89,12 @@ withDue e n = record {
   writes = e .writes;
 }
 
--- "A promoted entry becomes Waiting if it was opened with awaited above 0, and Free if not"
+-- document 02, item 2: "A promoted entry becomes Waiting only if an answer is still due, otherwise Free"
 unfoldable pub promoted : Request → Request
-promoted e = withMode e (if ltb 0 (e .awaited) then Waiting else Free)
+promoted e = withMode e (if ltb 0 (e .due) then Waiting else Free)
 
 -- Begin: "Blocked exactly if it conflicts with some entry queued before it; otherwise it is Waiting if awaited is above 0,
--- and Free if awaited is 0", which is the rule of a promotion
+-- and Free if awaited is 0", which is the rule of a promotion, since all its answers are due then (`BeginTells`)
 unfoldable pub admitted : List Request → Request → Request
 admitted q e = if conflictsAny q e then e else promoted e
 

@@ -105,13 +105,17 @@ pub record Step : Type 0 where
   pub call : Call
   pub outcome : Outcome
 
--- a sequence of calls from an opening: the table now, and the steps since that opening, the latest first
+-- a sequence of calls: the table now, and the steps since its opening, the latest first
 pub record Run : Type 0 where
   pub table : Table
   pub steps : List Step
 
+-- it begins at a table, and mostly at that of an opening
+abbrev pub from : Table → Run
+from t = record { table = t; steps = [] }
+
 abbrev pub opened : List ℕ → Run
-opened shares = record { table = openOf shares .table; steps = [] }
+opened shares = from (openOf shares .table)
 
 -- "A later Open begins a new sequence of calls"
 unfoldable pub after : Prices → Run → Call → Run

@@ -1,5 +1,5 @@
 -- A sound table: what an opening makes and every call keeps. The clauses are those of the sound block of document 02,
--- item 1, as far as they speak of a table; document 01's rule of promotion stands, so a Waiting entry may have nothing due.
+-- item 1, with what item 2 asks of a Waiting entry, as far as they speak of a table.
 use Prim.Native.Nat.{ℕ, _≤_, _<_}
 use mathlib.Core.Path.{_≡_}
 use mathlib.Core.Bool.{true, false}
@@ -30,9 +30,9 @@ pub record Fit (given : ℕ → ℕ) (e : Request) : Type 0 where
   -- "a tenant's serials rise ... from 1 to those given"
   pub from-one : 1 ≤ e .serial
   pub to-given : e .serial ≤ given (e .tenant)
-  -- "a Free entry has nothing due, a Waiting one awaited above 0, a Blocked one n above 0"
+  -- "a Free entry has nothing due, ... a Blocked one n above 0"; item 2: it "refuses a Waiting entry with nothing due"
   pub free : isFree (e .mode) ≡ true → e .due ≡ 0
-  pub waiting : isWaiting (e .mode) ≡ true → 0 < e .awaited
+  pub waiting : isWaiting (e .mode) ≡ true → 0 < e .due
   pub blocked : isBlocked (e .mode) ≡ true → 0 < size e
   -- "lists keep refusals 3 to 5"
   pub lists : WellFormed (e .reads) (e .writes)

@@ -1,12 +1,16 @@
--- Theorems of the law book: what a conflict is, record by record, and that the counters and the maps tell it.
+-- Theorems of the law book: what a conflict is, record by record, that the counters and the maps tell it, and the state that a
+-- Begin gives.
 use Prim.Native.Nat.{ℕ, _<_}
 use mathlib.Core.Path.{_≡_}
 use mathlib.Core.Bool.{Bool, true, _&&_, _||_, not}
 use mathlib.Core.List.{List, [], _∷_, _++_}
 use mathlib.Core.Logic.{_↔_}
+use lib.Dec.{ltb}
 use lib.ListN.{length, getD}
+use Rattle.rules.specs.declared.Mode.the-variants.{Free, Waiting, Blocked}
+use Rattle.rules.specs.Lists.{if_then_else_}
 use Rattle.rules.specs.Records.{member, WellFormed}
-use Rattle.rules.specs.Request.{Request, nobody, conflict, conflictsAny}
+use Rattle.rules.specs.Request.{Request, nobody, requested, conflict, conflictsAny, admitted}
 use Rattle.rules.specs.Counters.{cx, cs, figure2, alone}
 use Rattle.rules.specs.Scan.{noRecords, mapsOver, clearBy}
 use Rattle.rules.specs.Calls.{withoutEntry}
@@ -28,6 +32,14 @@ Figure2Tells =
     (q : List Request) (e : Request) →
     WellFormed (e .reads) (e .writes) →
     figure2 (cx (q ++ e ∷ [])) (cs (q ++ e ∷ [])) e ≡ conflictsAny q e
+
+-- "It is Blocked exactly if it conflicts with some entry queued before it; otherwise it is Waiting if awaited is above 0, and Free if
+-- awaited is 0": all its answers are due at admission
+abbrev pub BeginTells : Type 0
+BeginTells =
+    (q : List Request) (who serial awaited : ℕ) (reads writes : List ℕ) →
+    let e = requested who serial awaited reads writes in
+    admitted q e .mode ≡ (if conflictsAny q e then Blocked else (if ltb 0 awaited then Waiting else Free))
 
 -- Recheck goes by the counters, and so by all other entries, ahead and behind
 abbrev pub RecheckTells : Type 0

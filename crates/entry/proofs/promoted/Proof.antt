@@ -1,4 +1,4 @@
--- By whether the entry was opened with awaited answers.
+-- By whether an answer is still due.
 use borrow.Author.Tests.{lt-ltb, le-ltb}
 use Rattle.rules.specs.Request.{promoted}
 use borrow.Author.Needs.{needs}

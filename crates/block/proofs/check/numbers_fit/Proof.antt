@@ -59,9 +59,6 @@ shared-slice-read-suits-3 c = search needs
 shared-slice-read-suits-4 : tie.Need-shared-slice-read-suits-4
 shared-slice-read-suits-4 c = search needs
 
-shared-slice-read-suits-5 : tie.Need-shared-slice-read-suits-5
-shared-slice-read-suits-5 c = search needs
-
 add-suits : tie.Need-add-suits
 add-suits c = search needs
 
@@ -70,7 +67,7 @@ suits-requires c κs = search needs
 
 returns-6 : tie.Need-returns-6
 returns-6 c =
-    let five = c .before .before .before .before .before .before in
+    let five = c .before .before .before .before .before in
     let four = five .before .before in
     let three = four .before .before .before in
     let two = three .before .before in
@@ -108,7 +105,6 @@ numbers-fit-spec =
     shared-slice-read-suits-2
     shared-slice-read-suits-3
     shared-slice-read-suits-4
-    shared-slice-read-suits-5
     add-suits
     suits-requires
     returns-6)
