@@ -14,9 +14,9 @@ struct Entry {
     tenant: u8,
     serial: u16,
     mode: Mode,
-    awaited: u8,
     /// Nothing here reads it: an entry is to be as large as the proved one.
     #[allow(dead_code)]
+    awaited: u8,
     due: u8,
     nr: u8,
     nw: u8,
@@ -51,7 +51,7 @@ impl Entry {
     }
 
     fn promote(&mut self) -> Answer {
-        self.mode = Mode::unblocked(self.awaited);
+        self.mode = Mode::unblocked(self.due);
         self.named()
     }
 
@@ -283,6 +283,18 @@ mod tests {
         let found = table.scan(2);
         assert_eq!((found.answer, found.burnt), (named(Mode::Free, 2, 1), 6));
         assert_eq!(table.queued(), 2);
+    }
+
+    #[test]
+    fn what_is_promoted_waits_only_for_what_is_due() {
+        for (due, mode) in [(0, Mode::Free), (1, Mode::Waiting), (2, Mode::Waiting)] {
+            let mut table: Table = opened(&[(1, 40), (2, 40)]);
+            table.begin(1, 0, &[], &[10]);
+            table.begin(2, 2, &[], &[10]);
+            table.finish(1, 1);
+            table.entries[0].due = due;
+            assert_eq!(table.scan(2).answer, named(mode, 2, 1));
+        }
     }
 
     #[test]

@@ -36,9 +36,9 @@ pub enum Mode {
 }
 
 impl Mode {
-    /// Of an entry that nothing blocks, by the answers it was opened with.
-    pub fn unblocked(awaited: u8) -> Mode {
-        if awaited > 0 {
+    /// Of an entry that nothing blocks, by the answers still due.
+    pub fn unblocked(due: u8) -> Mode {
+        if due > 0 {
             Mode::Waiting
         } else {
             Mode::Free

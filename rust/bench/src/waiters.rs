@@ -15,7 +15,7 @@ struct Waiter {
 
 struct Request {
     mode: Mode,
-    awaited: u8,
+    due: u8,
     reads: Vec<u8>,
     writes: Vec<u8>,
 }
@@ -93,11 +93,11 @@ impl Table {
         })
     }
 
-    /// A Blocked request that has become clear runs, or waits for its answers.
+    /// A Blocked request that has become clear runs, or waits for what is due.
     fn wake(&mut self, name: Name) {
         let request = &self.requests[&name];
         if request.mode == Mode::Blocked && self.is_clear(name, request) {
-            let mode = Mode::unblocked(request.awaited);
+            let mode = Mode::unblocked(request.due);
             self.requests.get_mut(&name).unwrap().mode = mode;
         }
     }
@@ -134,7 +134,7 @@ impl Locks for Table {
         };
         let request = Request {
             mode,
-            awaited,
+            due: awaited,
             reads: reads.to_vec(),
             writes: writes.to_vec(),
         };
@@ -195,6 +195,18 @@ mod tests {
         assert_eq!(table.finish(1, 2).answer, Ok(Answer::Done));
         assert_eq!(mode_of(&table, (2, 1)), Mode::Waiting);
         assert_eq!(table.queued(), 1);
+    }
+
+    #[test]
+    fn what_is_woken_waits_only_for_what_is_due() {
+        for (due, mode) in [(0, Mode::Free), (1, Mode::Waiting), (2, Mode::Waiting)] {
+            let mut table: Table = opened(&[(1, 40), (2, 40)]);
+            table.begin(1, 0, &[], &[10]);
+            table.begin(2, 2, &[], &[10]);
+            table.requests.get_mut(&(2, 1)).unwrap().due = due;
+            table.finish(1, 1);
+            assert_eq!(mode_of(&table, (2, 1)), mode);
+        }
     }
 
     #[test]

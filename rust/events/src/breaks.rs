@@ -47,7 +47,7 @@ pub const BREAKS: [(usize, &str, Break); 41] = [
     (6, "a serial never given", serial_never_given),
     (7, "no such state", state),
     (8, "Free with answers due", free_with_due),
-    (8, "Waiting and awaited 0", waiting_for_nothing),
+    (8, "Waiting and nothing due", waiting_for_nothing),
     (8, "Blocked without records", blocked_on_nothing),
     (9, "nine reads", nine_reads),
     (9, "nine writes", nine_writes),
@@ -321,11 +321,12 @@ fn free_with_due(random: &mut Random, table: &mut Table) -> Option<Vec<u8>> {
     Some(block::write(table))
 }
 
+/// Be it that no answer was awaited or that all have come.
 fn waiting_for_nothing(random: &mut Random, table: &mut Table) -> Option<Vec<u8>> {
     let at = entry(random, table, |entry| entry.state != State::Blocked)?;
     let entry = &mut table.queue[at];
     entry.state = State::Waiting;
-    entry.request.awaited = 0;
+    entry.request.awaited = random.one_of(&[0, 1, 2, 15]);
     entry.due = 0;
     Some(block::write(table))
 }
@@ -530,5 +531,6 @@ fn waiting_in_conflict(random: &mut Random, table: &mut Table) -> Option<Vec<u8>
     let entry = &mut table.queue[at];
     entry.state = State::Waiting;
     entry.request.awaited = entry.request.awaited.max(1);
+    entry.due = entry.due.max(1);
     Some(block::write(table))
 }

@@ -129,7 +129,7 @@ fn answers(random: &mut Random, state: State) -> (u8, u8) {
         State::Free => (awaited, 0),
         State::Waiting => {
             let awaited = awaited.max(1);
-            (awaited, random.byte_between(0, awaited))
+            (awaited, random.byte_between(1, awaited))
         }
         State::Blocked => (awaited, random.byte_between(0, awaited)),
     }

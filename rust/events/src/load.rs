@@ -294,7 +294,7 @@ pub fn remote(random: &mut Random) -> Vec<u8> {
             (Call::Recheck, 12),
             (Call::Scan, 8),
             (Call::Pick, 8),
-            (Call::Deliver, 30),
+            (Call::Deliver, 24),
             (Call::Grant, 2),
         ],
     };
@@ -309,13 +309,10 @@ pub fn remote(random: &mut Random) -> Vec<u8> {
     sheet.into_bytes()
 }
 
-/// A Finish, a Recheck or a Deliver on an entry that waits. One that was
-/// promoted after all its answers had come waits with nothing due.
+/// A Finish, a Recheck or a Deliver on an entry that waits.
 fn call_on_waiting(random: &mut Random, sheet: &mut Sheet) {
     let waiting = sheet.names_in(State::Waiting);
-    let spent = sheet.names(|entry| entry.state == State::Waiting && entry.due == 0);
-    let name = random.any_of(&spent).or_else(|| random.any_of(&waiting));
-    if let Some(name) = name {
+    if let Some(name) = random.any_of(&waiting) {
         match random.below(3) {
             0 => sheet.finish(name),
             1 => sheet.recheck(name),

@@ -123,7 +123,7 @@ fn scan_owner(random: &mut Random, sheet: &mut Sheet) {
 fn work_off(random: &mut Random, sheet: &mut Sheet) {
     for _ in 0..random.between(1, 6) {
         sheet.pick();
-        for name in sheet.names(|entry| entry.state == State::Waiting && entry.due > 0) {
+        for name in sheet.names_in(State::Waiting) {
             sheet.deliver(name);
         }
         if let Some(name) = random.any_of(&sheet.names_in(State::Free)) {

@@ -8,7 +8,7 @@ use events::blocklines::{block_line, parse, Line};
 use events::breaks::BREAKS;
 use events::scenes::SCENES;
 use second::block::{self, Broken, BYTES, CLAUSES};
-use second::{Answer, Outcome, State};
+use second::{Answer, Outcome, State, Table};
 use std::collections::BTreeSet;
 
 const SEEDS: u64 = 20;
@@ -113,10 +113,14 @@ const WANTED: &str = "\
     deliver free, deliver waiting, deliver blocked, deliver refused:1, deliver refused:10,\
     deliver refused:12, deliver refused:15,\
     Length, Head, Unused, Shares, Fuel, Awaited, Count, Due, Tenant, AboveShare, Serial, State,\
-    FreeWithDue, WaitingForNothing, BlockedOnNothing, Lists 3, Lists 4, Lists 5, Counter Cx,\
+    FreeWithDue, WaitingForNothing of 0 awaited, WaitingForNothing of some awaited,\
+    BlockedOnNothing, Lists 3, Lists 4, Lists 5, Counter Cx,\
     Counter Cs, Conflict free, Conflict waiting,\
     empty queue, queue of 64, queue of another length,\
-    free entry, waiting entry, blocked entry, waiting with nothing due,\
+    free entry, waiting entry, blocked entry,\
+    recheck free with all answers in, recheck waiting with some answers in,\
+    scan free with all answers in, scan waiting with some answers in,\
+    pick free with all answers in, pick waiting with some answers in,\
     free after its answers, blocked with no conflict, entry of 0 records, entry of 16 records,\
     eight readers of a record, serial 65535, hole in the serials, tenant at its share,\
     share 0, fuel 0, fuel 1, fuel 1000000000";
@@ -127,9 +131,12 @@ fn everything_is_reached_and_nothing_else() {
     for (_, case) in batch() {
         seen.insert(answered(&case));
         match block::read(&case.block) {
-            Ok(table) => shapes(&table, &mut seen),
+            Ok(table) => {
+                shapes(&table, &mut seen);
+                seen.extend(answers_in(&case, &table));
+            }
             Err(broken) => {
-                seen.insert(breach(&broken));
+                seen.insert(breach(&case.block, &broken));
             }
         }
     }
@@ -149,8 +156,24 @@ fn answered(case: &Case) -> String {
     format!("{} {}", case.call.event().call(), answer)
 }
 
+/// A promotion of an entry that got answers while it was Blocked.
+fn answers_in(case: &Case, before: &Table) -> Option<String> {
+    let name = match made(case).0.answer {
+        Answer::Entry { tenant, serial, .. } => (tenant, serial),
+        _ => return None,
+    };
+    let mut queue = before.queue.iter();
+    let entry = queue.find(|entry| (entry.tenant, entry.serial) == name)?;
+    let promoted = ["recheck", "scan", "pick"].contains(&case.call.event().call());
+    if !promoted || entry.due == entry.request.awaited {
+        return None;
+    }
+    let which = if entry.due == 0 { "all" } else { "some" };
+    Some(format!("{} with {} answers in", answered(case), which))
+}
+
 /// The name of the way in which a block is not sound.
-fn breach(broken: &Broken) -> String {
+fn breach(block: &[u8], broken: &Broken) -> String {
     let name = format!("{:?}", broken);
     let name = name.split_whitespace().next().unwrap_or("");
     match broken {
@@ -158,11 +181,17 @@ fn breach(broken: &Broken) -> String {
         Broken::Counter { field: 0x13, .. } => format!("{} Cx", name),
         Broken::Counter { .. } => format!("{} Cs", name),
         Broken::Conflict { state, .. } => format!("{} {}", name, state.word()),
+        Broken::WaitingForNothing { at } => {
+            // The fifth of an entry's 24 bytes.
+            let awaited = block[640 + 24 * (at.number - 1) + 4];
+            let awaited = if awaited == 0 { "0" } else { "some" };
+            format!("{} of {} awaited", name, awaited)
+        }
         _ => String::from(name),
     }
 }
 
-fn shapes(table: &second::Table, seen: &mut BTreeSet<String>) {
+fn shapes(table: &Table, seen: &mut BTreeSet<String>) {
     let mut see = |shape: &str, there: bool| {
         if there {
             seen.insert(String::from(shape));
@@ -174,12 +203,10 @@ fn shapes(table: &second::Table, seen: &mut BTreeSet<String>) {
         _ => see("queue of another length", true),
     }
     for (at, entry) in table.queue.iter().enumerate() {
-        let (due, request) = (entry.due, &entry.request);
+        let request = &entry.request;
         let mut ahead = table.queue[..at].iter();
         let clear = !ahead.any(|other| other.conflicts_with(entry));
         see(&format!("{} entry", entry.state.word()), true);
-        let waiting = entry.state == State::Waiting;
-        see("waiting with nothing due", waiting && due == 0);
         let free = entry.state == State::Free;
         see("free after its answers", free && request.awaited > 0);
         let blocked = entry.state == State::Blocked;

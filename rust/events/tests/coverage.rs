@@ -1,10 +1,10 @@
 //! The generated files reach every answer, refusal and change of state that
-//! document 01 knows and a file can reach, and no other.
+//! the documents know and a file can reach, and no other.
 
 mod common;
 
 use common::{batch, walk, Step};
-use second::{Event, State};
+use second::{Entry, Event, State};
 use std::collections::BTreeSet;
 
 const SEEDS: u64 = 150;
@@ -32,12 +32,16 @@ const CALLS: [(&str, &str); 8] = [
     ),
 ];
 
-const CHANGES: [&str; 9] = [
+/// An entry is answered if it awaited answers and none is due any more.
+const CHANGES: [&str; 12] = [
     "recheck from blocked to free",
+    "recheck from blocked, answered to free",
     "recheck from blocked to waiting",
     "scan from blocked to free",
+    "scan from blocked, answered to free",
     "scan from blocked to waiting",
     "pick from blocked to free",
+    "pick from blocked, answered to free",
     "pick from blocked to waiting",
     "deliver from waiting to free",
     "deliver from waiting to waiting",
@@ -54,8 +58,8 @@ const FILE_REFUSALS: [&str; 5] = [
 
 const SPECIAL: [&str; 10] = [
     "finish of a free entry on a dry tank",
-    "finish refused for a waiting entry with nothing due",
-    "deliver refused for a waiting entry with nothing due",
+    "finish refused for a waiting entry",
+    "deliver refused for a blocked, answered entry",
     "finish refused for a blocked entry",
     "recheck refused for a free entry",
     "recheck refused for a waiting entry",
@@ -90,7 +94,7 @@ fn everything_is_reached_and_nothing_else() {
     let missing: Vec<&String> = wanted.difference(&seen).collect();
     assert!(missing.is_empty(), "never reached: {:?}", missing);
     let strange: Vec<&String> = seen.difference(&wanted).collect();
-    assert!(strange.is_empty(), "not in document 01: {:?}", strange);
+    assert!(strange.is_empty(), "not in the documents: {:?}", strange);
 }
 
 fn note(step: &Step<'_>, seen: &mut BTreeSet<String>) {
@@ -101,8 +105,9 @@ fn note(step: &Step<'_>, seen: &mut BTreeSet<String>) {
     };
     seen.insert(format!("{} {}", call, answer));
     if let (Some(entry), Some(state)) = (step.entry_before(), step.answered_state()) {
+        let answered = if is_answered(entry) { ", answered" } else { "" };
         let (from, to) = (entry.state.word(), state.word());
-        seen.insert(format!("{} from {} to {}", call, from, to));
+        seen.insert(format!("{} from {}{} to {}", call, from, answered, to));
     }
     seen.extend(special(step).map(String::from));
     if step.after.queue.len() == 64 {
@@ -122,13 +127,11 @@ fn special(step: &Step<'_>) -> Option<&'static str> {
         .tenant()
         .and_then(|tenant| step.after.fuel(tenant));
     let state = step.entry_before().map(|entry| entry.state);
-    let nothing_due = step.entry_before().map(|entry| entry.due) == Some(0);
+    let answered = step.entry_before().map_or(false, is_answered);
     match (step.event, answer.as_str(), state) {
         (Event::Finish { .. }, "done", _) if fuel_before == Some(0) => Some(SPECIAL[0]),
-        (Event::Finish { .. }, "refused:11", Some(State::Waiting)) if nothing_due => {
-            Some(SPECIAL[1])
-        }
-        (Event::Deliver { .. }, "refused:12", Some(State::Waiting)) => Some(SPECIAL[2]),
+        (Event::Finish { .. }, "refused:11", Some(State::Waiting)) => Some(SPECIAL[1]),
+        (Event::Deliver { .. }, "refused:12", Some(State::Blocked)) if answered => Some(SPECIAL[2]),
         (Event::Finish { .. }, "refused:11", Some(State::Blocked)) => Some(SPECIAL[3]),
         (Event::Recheck { .. }, "refused:11", Some(State::Free)) => Some(SPECIAL[4]),
         (Event::Recheck { .. }, "refused:11", Some(State::Waiting)) => Some(SPECIAL[5]),
@@ -137,6 +140,10 @@ fn special(step: &Step<'_>) -> Option<&'static str> {
         (Event::Scan { .. }, _, _) if step.outcome.burnt == 1_089 => Some(SPECIAL[8]),
         _ => None,
     }
+}
+
+fn is_answered(entry: &Entry) -> bool {
+    entry.request.awaited > 0 && entry.due == 0
 }
 
 fn admitted(step: &Step<'_>) -> bool {

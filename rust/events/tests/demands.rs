@@ -1,6 +1,6 @@
 //! What holds after every call of every generated file: the fuel adds up, the
-//! queue stays sound, refusals leave the state, and the verdicts of the plain
-//! list are those of document 01's counters and maps.
+//! queue stays sound, refusals leave the state, the verdicts of the plain list
+//! are those of document 01's counters and maps, and a promotion is Item 2's.
 
 mod common;
 
@@ -121,7 +121,7 @@ fn is_sound(entry: &Entry, ahead: &[Entry]) -> bool {
         .any(|other| request.conflicts_with(&other.request));
     let state_fits = match entry.state {
         State::Free => entry.due == 0 && !in_conflict,
-        State::Waiting => request.awaited > 0 && !in_conflict,
+        State::Waiting => entry.due > 0 && !in_conflict,
         State::Blocked => request.n() > 0,
     };
     state_fits && entry.due <= request.awaited && request.awaited <= 15
@@ -283,6 +283,52 @@ fn scan_says_what_the_maps_say() {
     });
     assert!(promoted > 100, "only {} promoted", promoted);
     assert_eq!(dearest, 1_089);
+}
+
+/// Item 2: "A promoted entry becomes Waiting only if an answer is still due,
+/// otherwise Free." Nothing else of it changes.
+#[test]
+fn a_promotion_says_what_is_due() {
+    let (mut free, mut waiting) = (0, 0);
+    for_each_step(|name, step| {
+        let promotes = ["recheck", "scan", "pick"].contains(&step.event.call());
+        let (entry, state) = match (step.entry_before(), step.answered_state()) {
+            (Some(entry), Some(state)) if promotes => (entry, state),
+            _ => return,
+        };
+        let due = entry.due > 0;
+        assert_eq!(state == State::Waiting, due, "{}", name);
+        assert_eq!(state == State::Free, !due, "{}", name);
+        let mut expected = entry.clone();
+        expected.state = state;
+        assert!(step.after.queue.contains(&expected), "{}", name);
+        let early = entry.due < entry.request.awaited;
+        free += u32::from(early && !due);
+        waiting += u32::from(early && due);
+    });
+    assert!(free > 50, "only {} freed by early answers", free);
+    assert!(waiting > 20, "only {} with some answers in", waiting);
+}
+
+/// Requests that never leave: whatever the calls have led to, the host's Pick and
+/// Deliver and a Finish bring out one front after the other, on dry tanks.
+#[test]
+fn every_request_can_leave() {
+    for (name, file) in batch(SEEDS) {
+        let mut last = Table::default();
+        walk(&file, |step| last = step.after.clone());
+        for meter in &mut last.meters {
+            meter.fuel = 0;
+        }
+        while let Some(front) = last.queue.first().cloned() {
+            last.pick();
+            for _ in 0..front.due {
+                last.deliver(front.tenant, front.serial);
+            }
+            let left = last.finish(front.tenant, front.serial);
+            assert_eq!(left.answer.to_string(), "done", "{}: {:?}", name, front);
+        }
+    }
 }
 
 /// A call changes the state of no entry but the one it answers with, and the

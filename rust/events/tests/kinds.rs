@@ -4,6 +4,7 @@ mod common;
 
 use common::{files, walk, Step};
 use events::kinds::{generate, Kind, KINDS};
+use second::State::{Blocked, Free, Waiting};
 use std::collections::BTreeSet;
 
 const SEEDS: u64 = 96;
@@ -123,20 +124,18 @@ fn scarce_files_run_short() {
 }
 
 #[test]
-fn remote_files_promote_to_waiting() {
-    use second::State::{Blocked, Free, Waiting};
-    for (from, to) in [(Blocked, Waiting), (Waiting, Free), (Blocked, Blocked)] {
+fn remote_files_answer_early_and_late() {
+    for (from, to) in [
+        (Waiting, Free),
+        (Blocked, Blocked),
+        (Blocked, Free),
+        (Blocked, Waiting),
+    ] {
         let with = files_with(Kind::Remote, |step| {
             let before = step.entry_before().map(|entry| entry.state);
             before == Some(from) && step.answered_state() == Some(to)
         });
-        assert!(
-            with > SEEDS * 3 / 4,
-            "{:?} to {:?}: {} files",
-            from,
-            to,
-            with
-        );
+        assert!(with > SEEDS / 2, "{:?} to {:?}: {} files", from, to, with);
     }
 }
 

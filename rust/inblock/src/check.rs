@@ -107,7 +107,7 @@ impl Ahead {
         self.last[seat] = serial;
         let fits = match state {
             FREE => due == 0,
-            WAITING => awaited > 0,
+            WAITING => due > 0,
             BLOCKED => nr > 0 || nw > 0,
             _ => false,
         };

@@ -4,7 +4,7 @@
 //! answers with a [`Reply`].
 //!
 //! "Document 01" is the page of scope and precise rules; the block is that of
-//! the first change request.
+//! Item 1 of the change requests, with Item 2's rule of promotion.
 
 mod check;
 mod layout;
@@ -306,9 +306,10 @@ fn clashes(block: &Block, reads: &[u8], writes: &[u8]) -> bool {
             .any(|&record| counter(block, CX, record) > 0 || counter(block, CS, record) > 0)
 }
 
-/// The state of an entry that nothing blocks, by the answers it was opened with.
-fn running(awaited: u8) -> u8 {
-    if awaited > 0 {
+/// The state of an entry that nothing blocks, by the answers still due. Of a new
+/// one these are all that it awaits.
+fn running(due: u8) -> u8 {
+    if due > 0 {
         WAITING
     } else {
         FREE
@@ -317,7 +318,7 @@ fn running(awaited: u8) -> u8 {
 
 fn promote(block: &mut Block, at: usize, burnt: u32) -> Reply {
     let entry = entry(block, at);
-    entry[STATE] = running(entry[AWAITED]);
+    entry[STATE] = running(entry[DUE]);
     Reply::named(entry, burnt)
 }
 

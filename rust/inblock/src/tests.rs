@@ -210,6 +210,7 @@ fn each_clause_of_soundness_is_checked() {
         ("due", &[(at(2, DUE), 3)]),
         ("Free with something due", &[(at(2, STATE), FREE)]),
         ("Waiting with nothing awaited", &[(at(0, STATE), WAITING)]),
+        ("Waiting with nothing due", &[(at(2, DUE), 0)]),
         ("Free behind a conflict", &[(at(1, STATE), FREE)]),
         ("the reads' number", &[(at(0, NR), 1), (at(0, NW), 2)]),
         (
@@ -239,9 +240,9 @@ fn each_clause_of_soundness_is_checked() {
 fn what_the_clauses_allow_is_sound() {
     let at = |place: usize, part: usize| ENTRIES + place * ENTRY_BYTES + part;
     let mut block = queued();
-    // a Waiting entry with nothing due; a Blocked one that nothing blocks; a gap in the serials
+    // a Waiting entry with its last answer due; a Blocked one that nothing blocks; a gap in the serials
     for (place, value) in [
-        (at(2, DUE), 0),
+        (at(2, DUE), 1),
         (at(0, STATE), BLOCKED),
         (at(3, SERIAL + 1), 9),
         (METERS + METER_BYTES + 5, 9),
@@ -260,4 +261,32 @@ fn a_record_in_both_lists_is_not_sound() {
     block[CS + 2] -= 1;
     block[CS + 3] += 1;
     assert!(!sound(&block));
+}
+
+/// A promotion goes by the answers still due, whatever was awaited.
+#[test]
+fn a_promoted_entry_waits_only_for_what_is_due() {
+    let calls: [fn(&mut [u8]) -> Reply; 3] = [
+        |block| recheck(block, 1, 1),
+        |block| scan(block, 1),
+        |block| pick(block),
+    ];
+    for (due, state) in [(0, FREE), (1, WAITING), (2, WAITING)] {
+        for call in calls {
+            let mut block = [0; BLOCK_BYTES];
+            open(&mut block, &[4; 16]);
+            grant(&mut block, 1, 100);
+            begin(&mut block, 1, 2, &[], &[3]);
+            let entry = entry(&mut block, 0);
+            entry[STATE] = BLOCKED;
+            entry[DUE] = due;
+            assert!(sound(&block));
+            let mut after = block;
+            let reply = call(&mut after);
+            assert_eq!((reply.kind, reply.state), (NAMED, state));
+            block[ENTRIES + STATE] = state;
+            assert_eq!(after[COUNT..], block[COUNT..]);
+            assert_eq!(finish(&mut after, 1, 1).kind == DONE, due == 0);
+        }
+    }
 }

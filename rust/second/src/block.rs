@@ -1,9 +1,9 @@
 //! The block of Item 1: the whole state in 2,176 bytes that the host lends.
 //!
-//! "The item" in a comment means Item 1 of the change requests. A block is read
-//! to a `Table`, the call is made on that, and the table is written back. The
-//! table keeps no counters, so Cx and Cs are counted over its queue when it is
-//! written, and held against that count when a block is read.
+//! "The item" in a comment means Item 1. A block is read to a `Table`, the call
+//! is made on that, and the table is written back. The table keeps no counters,
+//! so Cx and Cs are counted over its queue when it is written, and held against
+//! that count when a block is read.
 
 use crate::answer::{Answer, Outcome, Refusal};
 use crate::listing::apply;
@@ -30,8 +30,8 @@ const MOST_ENTRIES: usize = 64;
 const LISTS_AT: usize = 8;
 const LIST_BYTES: usize = 16;
 
-/// The clauses of a sound block in the item's words and order; `Broken::clause`
-/// counts from 1.
+/// The clauses of a sound block in the item's words and order, the eighth as
+/// Item 2 leaves it; `Broken::clause` counts from 1.
 pub const CLAUSES: [&str; 11] = [
     "heads, lengths and unused bytes are as above",
     "shares sum to at most 64",
@@ -40,7 +40,7 @@ pub const CLAUSES: [&str; 11] = [
     "tenants are 1 to 16, none above its share",
     "a tenant's serials rise from front to back, from 1 to those given",
     "states are 0 to 2",
-    "a Free entry has nothing due, a Waiting one awaited above 0, a Blocked one n above 0",
+    "a Free entry has nothing due, a Waiting one an answer due, a Blocked one n above 0",
     "lists keep refusals 3 to 5",
     "Cx and Cs are the queue's",
     "no Free or Waiting entry conflicts with one ahead",
@@ -239,7 +239,7 @@ impl fmt::Display for Broken {
                 write!(out, "{} is Free with {} answers due", at, due)
             }
             Broken::WaitingForNothing { at } => {
-                write!(out, "{} is Waiting and awaited 0 answers", at)
+                write!(out, "{} is Waiting and has no answer due", at)
             }
             Broken::BlockedOnNothing { at } => {
                 write!(out, "{} is Blocked and has no records", at)
@@ -599,16 +599,15 @@ impl Fields<'_> {
         Ok(())
     }
 
-    /// "a Free entry has nothing due, a Waiting one awaited above 0, a Blocked
-    /// one n above 0".
+    /// "a Free entry has nothing due, ... a Blocked one n above 0", and by Item 2
+    /// "Item 1's block then refuses a Waiting entry with nothing due". With due
+    /// at most awaited that leaves no Waiting entry that awaited 0.
     fn states_suit(&self) -> Result<(), Broken> {
         for slot in self.used() {
             let (at, due) = (slot.place(), slot.due());
             match slot.state() {
                 Some(State::Free) if due > 0 => return Err(Broken::FreeWithDue { at, due }),
-                Some(State::Waiting) if slot.awaited() == 0 => {
-                    return Err(Broken::WaitingForNothing { at })
-                }
+                Some(State::Waiting) if due == 0 => return Err(Broken::WaitingForNothing { at }),
                 Some(State::Blocked) if slot.n() == 0 => {
                     return Err(Broken::BlockedOnNothing { at })
                 }

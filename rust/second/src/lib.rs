@@ -3,7 +3,8 @@
 //! This is the second program of the comparison: it keeps no counters and no
 //! bit maps. The queue is a list of requests, and every verdict is a pairwise
 //! comparison of requests in that list. "Document 01" in a comment means the
-//! page of scope and precise rules, which decides every rule here.
+//! page of scope and precise rules, and an "Item" is one of document 02's change
+//! requests. These two pages decide every rule here.
 
 pub mod answer;
 pub mod block;

@@ -48,15 +48,6 @@ impl Request {
             || share_a_record(&self.writes, &other.reads)
             || share_a_record(&self.reads, &other.writes)
     }
-
-    /// The state of a request that no conflict holds up.
-    fn unblocked_state(&self) -> State {
-        if self.awaited > 0 {
-            State::Waiting
-        } else {
-            State::Free
-        }
-    }
 }
 
 fn strictly_rising(records: &[u8]) -> bool {
@@ -99,24 +90,29 @@ impl Entry {
     /// An entry that joins the queue behind entries it does or does not
     /// conflict with.
     pub fn admitted(tenant: u8, serial: u16, request: Request, conflicts: bool) -> Entry {
-        let state = if conflicts {
-            State::Blocked
-        } else {
-            request.unblocked_state()
-        };
-        Entry {
+        let mut entry = Entry {
             tenant,
             serial,
-            state,
+            state: State::Blocked,
             due: request.awaited,
             request,
+        };
+        // "otherwise it is Waiting if awaited is above 0, and Free if awaited
+        // is 0": all that it awaits is due, so that a promotion says the same.
+        if !conflicts {
+            entry.promote();
         }
+        entry
     }
 
-    /// "A promoted entry becomes Waiting if it was opened with awaited above
-    /// 0, and Free if not." What is still due plays no part.
+    /// Item 2: "A promoted entry becomes Waiting only if an answer is still
+    /// due, otherwise Free."
     pub fn promote(&mut self) {
-        self.state = self.request.unblocked_state();
+        self.state = if self.due > 0 {
+            State::Waiting
+        } else {
+            State::Free
+        };
     }
 
     /// One remote answer has come. A Blocked entry stays Blocked.

@@ -1,5 +1,6 @@
 //! The block of Item 1, byte by byte: each clause of a sound block kept, broken
-//! and named, and the calls on blocks that are sound or not.
+//! and named (the eighth as Item 2 has it), and the calls on blocks that are sound
+//! or not.
 
 mod common;
 
@@ -364,14 +365,17 @@ fn clause_8_states_and_what_is_due() {
         },
         "entry 1 (1.1) is Free with 1 answers due",
     );
-    // Waiting with nothing due is sound, by document 01's rule of promotion.
-    assert_sound(&[(SECOND + 4, &[2, 0])]);
-    assert_broken(
-        &[(SECOND + 4, &[0, 0])],
-        8,
-        Broken::WaitingForNothing { at: entry(2, 1, 2) },
-        "entry 2 (1.2) is Waiting and awaited 0 answers",
-    );
+    // Waiting for its last answer; then with none due, though it awaited two, or
+    // awaited none at all.
+    assert_sound(&[(SECOND + 4, &[2, 1])]);
+    for awaited in [2, 0] {
+        assert_broken(
+            &[(SECOND + 4, &[awaited, 0])],
+            8,
+            Broken::WaitingForNothing { at: entry(2, 1, 2) },
+            "entry 2 (1.2) is Waiting and has no answer due",
+        );
+    }
     // A request without records is Free or Waiting, and never Blocked.
     let bare: Change<'_> = &[(FIRST + 7, &[0, 0]), (131, &[1])];
     assert_sound(bare);
@@ -680,4 +684,36 @@ fn calls_change_the_bytes_they_should() {
     assert_eq!(said(call(&mut block, finish(1, 2))), "done 0");
     assert_eq!(said(call(&mut block, Event::Pick)), "waiting:2.1 0");
     assert_eq!(block[640..650], [2, 0, 1, 1, 1, 1, 1, 1, 11, 10]);
+}
+
+/// Item 2: what is still due decides, and the other bytes of the entry stay.
+#[test]
+fn a_promotion_goes_by_what_is_due() {
+    // 1.1 writes 12 in place of 10, so that nothing is in the way of 2.1.
+    let apart: Change<'_> = &[(131, &[1]), (133, &[1]), (FIRST + 8, &[12])];
+    let recheck = Event::Recheck {
+        tenant: 2,
+        serial: 1,
+    };
+    let scan = Event::Scan { tenant: 2 };
+    for (due, state, word) in [(0, 0, "free"), (1, 1, "waiting"), (2, 1, "waiting")] {
+        let blocked: &[u8] = &[2, 2, due];
+        let promoted: &[u8] = &[state, 2, due];
+        // 1 + 2; and 1, and 2 for 1.1, 2 for 1.2, 3 for 2.1. The fuel was 94.
+        for (event, burnt) in [(recheck, 3), (scan, 8)] {
+            let left: &[u8] = &[94 - burnt];
+            let before = [apart, &[(THIRD + 3, blocked)]].concat();
+            let after = [apart, &[(THIRD + 3, promoted), (31, left)]].concat();
+            let mut block = changed(&before);
+            let answer = format!("{}:2.1 {}", word, burnt);
+            assert_eq!(said(call(&mut block, event)), answer);
+            assert_eq!(block, changed(&after));
+        }
+        let mut block = changed(&[(FIRST + 3, blocked)]);
+        assert_eq!(
+            said(call(&mut block, Event::Pick)),
+            format!("{}:1.1 0", word)
+        );
+        assert_eq!(block, changed(&[(FIRST + 3, promoted)]));
+    }
 }

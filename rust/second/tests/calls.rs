@@ -1,9 +1,10 @@
-//! What the calls do when they are not refused, and the traps of document 01.
+//! What the calls do when they are not refused, the traps of document 01, and
+//! what Item 2 says of answers that come while an entry is Blocked.
 
 mod common;
 
 use common::{busy, opened, said};
-use second::{State, Table};
+use second::{Outcome, State, Table};
 
 /// Tenants 1 to 3 with places and fuel.
 fn roomy() -> Table {
@@ -129,31 +130,59 @@ fn answers_do_not_run_a_blocked_entry() {
     assert_eq!(state(&table, 2, 1), State::Blocked);
 }
 
-/// Document 01 as it stands: what counts at a promotion is what the entry was
-/// opened with. An entry promoted after its last answer stays Waiting.
+/// 2.1 awaits three answers, reads 11 and writes 10. It is Blocked behind 1.1,
+/// which leaves once so many of the answers have come.
+fn answered_while_blocked(answers: usize) -> Table {
+    let mut table = roomy();
+    assert_eq!(said(table.begin(1, 0, &[], &[10])), "free:1.1 4");
+    assert_eq!(said(table.begin(2, 3, &[11], &[10])), "blocked:2.1 6");
+    for _ in 0..answers {
+        assert_eq!(said(table.deliver(2, 1)), "blocked:2.1 0");
+    }
+    assert_eq!(said(table.finish(1, 1)), "done 0");
+    table
+}
+
+/// The calls that promote 2.1 where it is alone in the queue, and what they
+/// burn: 1 + 2 for a Recheck, 1 and 1 + 2 for a Scan.
+type Promote = fn(&mut Table) -> Outcome;
+const PROMOTIONS: [(Promote, u32); 3] = [
+    (|table| table.recheck(2, 1), 3),
+    (|table| table.scan(2), 4),
+    (|table| table.pick(), 0),
+];
+
+/// Item 2: "A promoted entry becomes Waiting only if an answer is still due,
+/// otherwise Free." It can then leave, even on a dry tank.
 #[test]
-fn promoted_with_nothing_due_it_waits() {
-    type Promote = fn(&mut Table) -> second::Outcome;
-    let ways: [(Promote, &str); 3] = [
-        (|table| table.recheck(2, 1), "waiting:2.1 3"),
-        // 1 to start, 2 for 1.2, 3 for 2.1.
-        (|table| table.scan(2), "waiting:2.1 6"),
-        (|table| table.pick(), "waiting:2.1 0"),
-    ];
-    for (promote, answer) in ways {
-        let mut table = busy();
-        table.deliver(2, 1);
-        table.finish(1, 1);
-        if answer.ends_with(" 0") {
-            // Pick needs it in front: 1.2 leaves after its two answers.
-            table.deliver(1, 2);
-            table.deliver(1, 2);
-            table.finish(1, 2);
-        }
-        assert_eq!(said(promote(&mut table)), answer);
-        assert_eq!(said(table.finish(2, 1)), "refused:11 1");
+fn promoted_after_its_last_answer_it_is_free() {
+    for (promote, burnt) in PROMOTIONS {
+        let mut table = answered_while_blocked(3);
+        let promoted = said(promote(&mut table));
+        assert_eq!(promoted, format!("free:2.1 {}", burnt));
         assert_eq!(said(table.deliver(2, 1)), "refused:12 0");
-        assert_eq!(state(&table, 2, 1), State::Waiting);
+        assert_eq!(said(table.recheck(2, 1)), "refused:11 1");
+        table.meters[1].fuel = 0;
+        assert_eq!(said(table.finish(2, 1)), "done 0");
+        assert!(table.queue.is_empty());
+    }
+}
+
+/// With none, one or two of the three answers in.
+#[test]
+fn promoted_with_an_answer_due_it_waits_for_it() {
+    for (promote, burnt) in PROMOTIONS {
+        for answers in 0..3 {
+            let mut table = answered_while_blocked(answers);
+            let promoted = said(promote(&mut table));
+            assert_eq!(promoted, format!("waiting:2.1 {}", burnt));
+            assert_eq!(said(table.finish(2, 1)), "refused:11 1");
+            for _ in answers..2 {
+                assert_eq!(said(table.deliver(2, 1)), "waiting:2.1 0");
+            }
+            assert_eq!(said(table.deliver(2, 1)), "free:2.1 0");
+            assert_eq!(said(table.finish(2, 1)), "done 0");
+        }
     }
 }
 

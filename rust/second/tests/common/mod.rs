@@ -1,5 +1,5 @@
 //! What several test files need. Expected numbers in the tests are worked out
-//! by hand from document 01.
+//! by hand from the documents.
 #![allow(dead_code)]
 
 use second::table::TENANTS;
