@@ -13,7 +13,14 @@ pub const PLACES: usize = 64;
 
 /// A state some way into a generated event file.
 pub fn reached(random: &mut Random) -> Table {
-    let kind = random.one_of(&[Kind::Mixed, Kind::Deep, Kind::Scarce, Kind::Remote]);
+    let kinds = [
+        Kind::Mixed,
+        Kind::Deep,
+        Kind::Scarce,
+        Kind::Remote,
+        Kind::Early,
+    ];
+    let kind = random.one_of(&kinds);
     let file = generate(random.draw() >> 16, kind);
     let calls = Reader::new(&file).count();
     let mut table = Table::default();

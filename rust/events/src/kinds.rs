@@ -2,6 +2,7 @@
 
 use crate::boundary::boundary;
 use crate::damaged::damaged;
+use crate::early::early;
 use crate::load::{deep, mixed, remote, scarce};
 use crate::random::Random;
 use crate::refusals::refusals;
@@ -17,11 +18,12 @@ pub enum Kind {
     Worst,
     Damaged,
     Boundary,
+    Early,
 }
 
 /// In this order: a kind's place goes into its random numbers, so a new kind
 /// joins at the end.
-pub const KINDS: [(&str, Kind); 8] = [
+pub const KINDS: [(&str, Kind); 9] = [
     ("mixed", Kind::Mixed),
     ("deep", Kind::Deep),
     ("scarce", Kind::Scarce),
@@ -30,6 +32,7 @@ pub const KINDS: [(&str, Kind); 8] = [
     ("worst", Kind::Worst),
     ("damaged", Kind::Damaged),
     ("boundary", Kind::Boundary),
+    ("early", Kind::Early),
 ];
 
 impl Kind {
@@ -59,5 +62,6 @@ pub fn generate(seed: u64, kind: Kind) -> Vec<u8> {
         Kind::Worst => worst(&mut random),
         Kind::Damaged => damaged(&mut random),
         Kind::Boundary => boundary(seed, &mut random),
+        Kind::Early => early(&mut random),
     }
 }

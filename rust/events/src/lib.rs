@@ -20,6 +20,7 @@ mod boundary;
 pub mod breaks;
 mod compose;
 mod damaged;
+mod early;
 pub mod encode;
 pub mod kinds;
 mod load;

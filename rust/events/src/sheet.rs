@@ -102,6 +102,12 @@ impl Sheet {
         self.names(|entry| entry.state == state)
     }
 
+    /// Where the entry of that name stands in the queue.
+    pub fn place(&self, name: Name) -> Option<usize> {
+        let mut queue = self.table.queue.iter();
+        queue.position(|entry| (entry.tenant, entry.serial) == name)
+    }
+
     pub fn has_place(&self, tenant: u8) -> bool {
         let held = self.names(|entry| entry.tenant == tenant).len();
         held < usize::from(self.table.meters[usize::from(tenant) - 1].share)

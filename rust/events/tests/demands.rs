@@ -306,8 +306,8 @@ fn a_promotion_says_what_is_due() {
         free += u32::from(early && !due);
         waiting += u32::from(early && due);
     });
-    assert!(free > 50, "only {} freed by early answers", free);
-    assert!(waiting > 20, "only {} with some answers in", waiting);
+    assert!(free > 500, "only {} freed by early answers", free);
+    assert!(waiting > 500, "only {} with some answers in", waiting);
 }
 
 /// Requests that never leave: whatever the calls have led to, the host's Pick and

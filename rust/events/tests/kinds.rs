@@ -5,6 +5,7 @@ mod common;
 use common::{files, walk, Step};
 use events::kinds::{generate, Kind, KINDS};
 use second::State::{Blocked, Free, Waiting};
+use second::{Answer, Entry, Event};
 use std::collections::BTreeSet;
 
 const SEEDS: u64 = 96;
@@ -83,6 +84,7 @@ fn loads_are_good_files() {
         Kind::Remote,
         Kind::Refusals,
         Kind::Worst,
+        Kind::Early,
     ];
     for kind in good {
         for file in files(kind, SEEDS) {
@@ -137,6 +139,73 @@ fn remote_files_answer_early_and_late() {
         });
         assert!(with > SEEDS / 2, "{:?} to {:?}: {} files", from, to, with);
     }
+}
+
+/// Whether a call promotes an entry that got answers while it was Blocked: all of
+/// them, or some.
+fn promotes(step: &Step<'_>, call: &str, all: bool) -> bool {
+    let answered = |entry: &Entry| {
+        let awaited = entry.request.awaited;
+        entry.state == Blocked && entry.due < awaited && (entry.due == 0) == all
+    };
+    let state = if all { Free } else { Waiting };
+    step.event.call() == call
+        && step.entry_before().map_or(false, answered)
+        && step.answered_state() == Some(state)
+}
+
+/// Each call that can promotes such an entry, and the entry leaves.
+#[test]
+fn early_files_promote_what_has_answers() {
+    for call in ["recheck", "scan", "pick"] {
+        for all in [true, false] {
+            let (mut promoting, mut finishing) = (0, 0);
+            for file in files(Kind::Early, SEEDS) {
+                let (mut promoted, mut finished) = (BTreeSet::new(), false);
+                walk(&file, |step| match (step.outcome.answer, step.event) {
+                    (Answer::Entry { tenant, serial, .. }, _) if promotes(step, call, all) => {
+                        promoted.insert((tenant, serial));
+                    }
+                    (Answer::Done, Event::Finish { tenant, serial }) => {
+                        finished |= promoted.contains(&(tenant, serial));
+                    }
+                    _ => {}
+                });
+                promoting += u64::from(!promoted.is_empty());
+                finishing += u64::from(finished);
+            }
+            let what = format!("{}, all answers: {}", call, all);
+            assert!(promoting > SEEDS * 9 / 10, "{}: {} files", what, promoting);
+            assert!(finishing > SEEDS * 3 / 4, "{}: {} files", what, finishing);
+        }
+    }
+}
+
+/// Calls on an entry that has been promoted, or is Blocked with its answers in.
+#[test]
+fn early_files_try_what_cannot_be() {
+    for (call, number, state) in [
+        ("finish", 11, Waiting),
+        ("finish", 11, Blocked),
+        ("finish", 2, Blocked),
+        ("recheck", 11, Waiting),
+        ("recheck", 11, Free),
+        ("deliver", 12, Blocked),
+        ("deliver", 12, Free),
+    ] {
+        let with = files_with(Kind::Early, |step| {
+            step.event.call() == call
+                && step.refusal() == Some(number)
+                && step.entry_before().map(|entry| entry.state) == Some(state)
+        });
+        assert!(with > SEEDS / 4, "{} {:?}: {} files", call, state, with);
+    }
+    let dry = |step: &Step<'_>| {
+        let tenant = step.event.tenant();
+        step.outcome.answer == Answer::Done
+            && tenant.and_then(|tenant| step.before.fuel(tenant)) == Some(0)
+    };
+    assert!(files_with(Kind::Early, dry) > SEEDS * 9 / 10);
 }
 
 /// Every number but 8 (no file reaches it) and 14 (which leaves no other

@@ -97,7 +97,7 @@ fn assert_round_trip(name: &str, file: &[u8]) {
     assert_eq!(to_text(&bytes(&text)), text, "{}: the text", name);
 }
 
-/// 125 seeds of 8 kinds.
+/// 125 seeds of each kind.
 #[test]
 fn a_thousand_generated_files_go_there_and_back() {
     let mut files = 0;
@@ -105,7 +105,7 @@ fn a_thousand_generated_files_go_there_and_back() {
         assert_round_trip(&name, &file);
         files += 1;
     }
-    assert_eq!(files, 1_000);
+    assert!(files > 1_000, "only {} files", files);
 }
 
 #[test]
