@@ -1,6 +1,7 @@
 //! Scenes on a sound state: it is changed a little, and so that it stays sound,
-//! and a call is made that must be refused with one number, or must just
-//! succeed where a unit, a place or a serial less would not do.
+//! and a call is made that must be refused with one number, must just succeed
+//! where a unit, a place or a serial less would not do, or must promote an entry
+//! that got answers while it was Blocked.
 
 use crate::aim::{begin_of, near_lists, open, tenants_with_a_place, NO_TENANTS};
 use crate::compose::held;
@@ -8,13 +9,13 @@ use crate::random::Random;
 use crate::sheet::Lists;
 use crate::text::Call;
 use second::table::{Meter, MOST_FUEL, MOST_SERIALS, TENANTS};
-use second::{price, Entry, Event, State, Table};
+use second::{apply, price, Answer, Entry, Event, State, Table};
 
 /// Gives nothing where the state has no place for the scene.
 pub type Scene = fn(&mut Random, &mut Table) -> Option<Call>;
 
 /// The refusal that must come, 0 for none, and what the scene is.
-pub const SCENES: [(u8, &str, Scene); 31] = [
+pub const SCENES: [(u8, &str, Scene); 34] = [
     (1, "no such tenant", no_such_tenant),
     (2, "begin on a dry tank", dry_begin),
     (2, "recheck on a dry tank", dry_recheck),
@@ -46,6 +47,9 @@ pub const SCENES: [(u8, &str, Scene); 31] = [
     (0, "grant to the brim", grant_to_the_brim),
     (0, "pick of a Blocked front", pick_blocked),
     (0, "begin in the last place", last_place),
+    (0, "recheck with answers in", recheck_answered),
+    (0, "scan with answers in", scan_answered),
+    (0, "pick with answers in", pick_answered),
 ];
 
 fn meter(table: &mut Table, tenant: u8) -> &mut Meter {
@@ -385,4 +389,40 @@ fn last_place(random: &mut Random, table: &mut Table) -> Option<Call> {
     let meter = meter(table, tenant);
     meter.fuel = meter.fuel.max(price);
     Some(begin_of(tenant, random.one_of(&[0, 1]), lists))
+}
+
+/// A call that promotes at its price. All answers of the entry came while it was
+/// Blocked, or all but some.
+fn answered(random: &mut Random, table: &mut Table, event: Event<'static>) -> Option<Call> {
+    let mut after = table.clone();
+    for meter in &mut after.meters {
+        meter.fuel = MOST_FUEL;
+    }
+    let outcome = apply(&mut after, event);
+    let name = match outcome.answer {
+        Answer::Entry { tenant, serial, .. } => (tenant, serial),
+        _ => return None,
+    };
+    meter(table, name.0).fuel = outcome.burnt + random.one_of(&[0, 0, 1]);
+    let mut queue = table.queue.iter_mut();
+    let entry = queue.find(|entry| (entry.tenant, entry.serial) == name)?;
+    let awaited = random.one_of(&[1, 2, 15]);
+    let some = random.byte_between(0, awaited - 1);
+    entry.request.awaited = awaited;
+    entry.due = random.one_of(&[0, some]);
+    Some(Call::Plain(event))
+}
+
+fn recheck_answered(random: &mut Random, table: &mut Table) -> Option<Call> {
+    let (tenant, serial, _) = blocked(random, table)?;
+    answered(random, table, Event::Recheck { tenant, serial })
+}
+
+fn scan_answered(random: &mut Random, table: &mut Table) -> Option<Call> {
+    let (tenant, _, _) = blocked(random, table)?;
+    answered(random, table, Event::Scan { tenant })
+}
+
+fn pick_answered(random: &mut Random, table: &mut Table) -> Option<Call> {
+    answered(random, table, Event::Pick)
 }

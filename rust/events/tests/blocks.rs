@@ -256,6 +256,19 @@ fn breaks_and_scenes_come_in_turn() {
     }
 }
 
+#[test]
+fn scenes_with_answers_in_promote() {
+    let mut found = 0;
+    for (what, case) in batch() {
+        if case.what.ends_with("with answers in") {
+            let table = block::read(&case.block).expect("a scene is sound");
+            assert!(answers_in(&case, &table).is_some(), "{}", what);
+            found += 1;
+        }
+    }
+    assert!(found > 100, "only {} cases", found);
+}
+
 /// 32 seeds of the kind `bytes` change each byte of a full block.
 #[test]
 fn every_byte_is_changed() {
