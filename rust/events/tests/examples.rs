@@ -6,7 +6,15 @@ use second::listing;
 use std::fs;
 use std::path::{Path, PathBuf};
 
-const NAMES: [&str; 6] = ["twelve-lines", "sale", "dry", "front", "neighbour", "letgo"];
+const NAMES: [&str; 7] = [
+    "twelve-lines",
+    "sale",
+    "dry",
+    "front",
+    "neighbour",
+    "letgo",
+    "early",
+];
 
 fn folder() -> PathBuf {
     Path::new(env!("CARGO_MANIFEST_DIR")).join("../../examples")
@@ -38,7 +46,7 @@ fn calls(text: &str) -> Vec<(&str, &str)> {
 }
 
 #[test]
-fn the_six_are_there() {
+fn the_seven_are_there() {
     let found: Vec<String> = examples().into_iter().map(|(name, _)| name).collect();
     for name in NAMES {
         assert!(found.iter().any(|known| known == name), "{}", name);
