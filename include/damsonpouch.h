@@ -46,13 +46,13 @@ enum {
     DAMSONPOUCH_NOTHING = 3, /* of Scan and Pick: no entry was promoted */
     DAMSONPOUCH_REFUSED = 4, /* `number` says why */
     DAMSONPOUCH_ENTRY = 5    /* an entry's state after the call, and its name: of Begin and Deliver, and of Recheck, Scan and
-                                Pick where they promote */
+                                Pick where they promote. A promoted entry is Waiting only if an answer is still due, else Free */
 };
 
 /* The states of an entry, in a reply and in the block. */
 enum {
     DAMSONPOUCH_FREE = 0,    /* it runs, and may be finished */
-    DAMSONPOUCH_WAITING = 1, /* it holds its locks and waits for remote answers */
+    DAMSONPOUCH_WAITING = 1, /* it holds its locks and waits for the remote answers still due */
     DAMSONPOUCH_BLOCKED = 2  /* it conflicts with an entry that was queued before it */
 };
 
@@ -105,7 +105,7 @@ damsonpouch_reply damsonpouch_scan(uint8_t *block, size_t length, uint8_t tenant
 damsonpouch_reply damsonpouch_pick(uint8_t *block, size_t length);
 
 /* A host call: one remote answer of an entry has come. A Waiting entry with none left due becomes Free; a Blocked one stays
- * Blocked. Refusals: 15, 1, 10, 12. */
+ * Blocked until it is promoted. Refusals: 15, 1, 10, 12. */
 damsonpouch_reply damsonpouch_deliver(uint8_t *block, size_t length, uint8_t tenant, uint16_t serial);
 
 /* Whether the block is sound, as every call but Open asks. It is only read. A host need not ask, since the calls do. */

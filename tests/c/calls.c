@@ -270,15 +270,37 @@ static void picks_and_delivers(void) {
     NAMES(DELIVER(2, 1), BLOCKED, 2, 1, 0);
 
     fresh(now, "1");
-    serials(now, 1, 300);
-    entry(now, 1, 300, BLOCKED, 3, 1, "\x05", "");
-    fresh(due, "1");
-    serials(due, 1, 300);
-    entry(due, 1, 300, WAITING, 3, 1, "\x05", "");
-    NAMES(PICK(), WAITING, 1, 300, 0);
-    fresh(now, "1");
     fresh(due, "1");
     PLAIN(PICK(), DAMSONPOUCH_NOTHING);
+}
+
+/* 1.300 in the state given, with three answers awaited and so many still due, alone in the queue. */
+static void alone(uint8_t *block, int state, int still_due, uint32_t units) {
+    fresh(block, "1");
+    serials(block, 1, 300);
+    fuel(block, 1, units);
+    entry(block, 1, 300, state, 3, still_due, "\x05", "");
+}
+
+/* A promoted entry is Waiting only if an answer is still due, else Free; and then it can leave, on a dry tank too. */
+static void promotes(void) {
+    for (int still_due = 0; still_due <= 3; still_due++) {
+        const int state = still_due > 0 ? WAITING : FREE;
+        alone(now, BLOCKED, still_due, 2);
+        alone(due, state, still_due, 0);
+        NAMES(RECHECK(1, 300), state, 1, 300, 2);
+        alone(now, BLOCKED, still_due, 3);
+        NAMES(SCAN(1), state, 1, 300, 3);
+        alone(now, BLOCKED, still_due, 0);
+        NAMES(PICK(), state, 1, 300, 0);
+        for (int left = still_due - 1; left >= 0; left--) {
+            alone(due, left > 0 ? WAITING : FREE, left, 0);
+            NAMES(DELIVER(1, 300), left > 0 ? WAITING : FREE, 1, 300, 0);
+        }
+        fresh(due, "1");
+        serials(due, 1, 300);
+        PLAIN(FINISH(1, 300), DAMSONPOUCH_DONE);
+    }
 }
 
 /* ---- the refusals, by their numbers */
@@ -408,6 +430,7 @@ static void refusal_15(void) {
         {645, 1},           /* more due than awaited */
         {640 + 24 + 4, 16}, /* awaited above 15 */
         {640 + 24 + 4, 0},  /* Waiting, and nothing awaited */
+        {640 + 24 + 5, 0},  /* Waiting, and nothing due */
         {647, 0},           /* a record that is not in a list */
         {640 + 48 + 9, 12}, /* a record twice */
         {640 + 48 + 8, 10}, /* a record in both lists */
@@ -477,6 +500,7 @@ int main(void) {
     begins();
     finishes_and_searches();
     picks_and_delivers();
+    promotes();
     refusals_1_and_2();
     refusals_3_to_8();
     refusals_9_to_13();

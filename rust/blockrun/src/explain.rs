@@ -266,6 +266,18 @@ mod tests {
         assert!(told.starts_with("not sound: entry 1 (1.65534) has state 7"));
     }
 
+    #[test]
+    fn a_request_that_would_never_leave() {
+        let mut bytes = block();
+        bytes[ENTRIES_AT + 3] = 1;
+        let told = agreed(&bytes);
+        assert!(told.starts_with(
+            "not sound: entry 1 (1.65534) is Waiting and has no answer due\n\
+             \x20 the rule: a Free entry has nothing due, a Waiting one an answer due, \
+             a Blocked one n above 0\n"
+        ));
+    }
+
     /// Whatever the bytes are, there are words for them.
     #[test]
     fn any_bytes() {

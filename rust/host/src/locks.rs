@@ -245,7 +245,8 @@ impl<'a> Locks<'a> {
     }
 
     /// A host call: one remote answer of an entry has come. A Waiting entry
-    /// with none left due becomes Free; a Blocked one stays Blocked.
+    /// with none left due becomes Free; a Blocked one stays Blocked until it is
+    /// promoted.
     ///
     /// Refusals, in this order: 15, 1, 10, 12.
     ///
@@ -255,9 +256,13 @@ impl<'a> Locks<'a> {
     /// # let _ = locks.open(&[4; 16]);
     /// # let _ = locks.grant(1, 40);
     /// assert_eq!(locks.begin(1, 2, &[], &[10]).to_string(), "waiting:1.1 4");
+    /// assert_eq!(locks.begin(1, 1, &[10], &[]).to_string(), "blocked:1.2 4");
     /// assert_eq!(locks.deliver(1, 1).to_string(), "waiting:1.1 0");
     /// assert_eq!(locks.deliver(1, 1).to_string(), "free:1.1 0");
     /// assert_eq!(locks.deliver(1, 1).to_string(), "refused:12 0");
+    /// assert_eq!(locks.deliver(1, 2).to_string(), "blocked:1.2 0");
+    /// assert_eq!(locks.finish(1, 1).to_string(), "done 0");
+    /// assert_eq!(locks.pick().to_string(), "free:1.2 0");
     /// ```
     pub fn deliver(&mut self, tenant: u8, serial: u16) -> Outcome {
         linked::deliver(self.block, tenant, serial).into()

@@ -9,7 +9,7 @@ use std::fmt;
 pub enum State {
     /// It runs, and may be finished.
     Free,
-    /// It holds its locks and waits for remote answers.
+    /// It holds its locks and waits for the remote answers still due.
     Waiting,
     /// It conflicts with an entry that was queued before it.
     Blocked,
@@ -57,7 +57,8 @@ pub enum Answer {
     /// Of Scan and Pick: no entry was promoted.
     Nothing,
     /// An entry's state after the call, and its name: of Begin and Deliver, and
-    /// of Recheck, Scan and Pick where they promote.
+    /// of Recheck, Scan and Pick where they promote. A promoted entry is Waiting
+    /// only if an answer is still due, else Free.
     Entry {
         /// Its state after the call.
         state: State,

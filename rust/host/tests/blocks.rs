@@ -1,5 +1,5 @@
-//! Sound and unsound blocks: each rule of document 02's Item 1, just kept and
-//! just broken. An unsound block is refused by every call, unchanged, and Open
+//! Sound and unsound blocks: each rule of document 02's Item 1, with Item 2's
+//! change, just kept and just broken. An unsound block is refused by every call, unchanged, and Open
 //! overwrites it.
 
 mod common;
@@ -124,8 +124,10 @@ fn awaited_and_due() {
     sound("Blocked with some due", &of(BLOCKED, 3, 2));
     sound("Free once all have come", &of(FREE, 3, 0));
     unsound("Free with one due", &of(FREE, 3, 1).bytes());
-    sound("Waiting with nothing due", &of(WAITING, 1, 0));
-    unsound("Waiting for nothing", &of(WAITING, 0, 0).bytes());
+    sound("Waiting for the last", &of(WAITING, 3, 1));
+    unsound("Waiting with nothing due", &of(WAITING, 3, 0).bytes());
+    unsound("Waiting with nothing awaited", &of(WAITING, 0, 0).bytes());
+    sound("Blocked once all have come", &of(BLOCKED, 3, 0));
     unsound("a state of 3", &of(3, 1, 1).bytes());
     unsound("a state of 255", &of(255, 1, 1).bytes());
 }

@@ -1,5 +1,5 @@
 //! Every call and every answer, with the block's bytes after it, worked out by
-//! hand from document 01.
+//! hand from documents 01 and 02.
 
 mod common;
 
@@ -163,8 +163,7 @@ fn recheck_says_still_or_promotes() {
         "free:2.1 4",
         &after.bytes(),
     );
-    // an entry behind counts too, and one that was begun with awaited answers
-    // waits
+    // an entry behind counts too, and one with an answer due waits
     let mut behind = Picture::fresh(&[2])
         .fuel(1, 9)
         .serials(1, 2)
@@ -238,18 +237,45 @@ fn pick_promotes_a_blocked_front() {
         "free:2.1 0",
         &after.bytes(),
     );
-    // document 01's rule of promotion goes by the awaited answers, not by those
-    // due
-    let mut front = front;
-    front.queue[0] = front.queue[0].clone().awaits(2, 0);
-    let mut after = front.clone();
-    after.queue[0].state = WAITING;
-    gives(
-        &front.bytes(),
-        |locks| locks.pick(),
-        "waiting:2.1 0",
-        &after.bytes(),
-    );
+}
+
+/// Item 2 of document 02: a promoted entry is Waiting only if an answer is still
+/// due, else Free, and can then be finished.
+#[test]
+fn a_promotion_goes_by_the_answers_due() {
+    let alone = base().without(0).without(0);
+    // 1 + 3; 1, and 4 for 2.1 itself
+    let calls: [(Call, u32); 3] = [
+        (|locks| locks.recheck(2, 1), 4),
+        (|locks| locks.scan(2), 5),
+        (|locks| locks.pick(), 0),
+    ];
+    for (due, state, word) in [
+        (0, FREE, "free"),
+        (1, WAITING, "waiting"),
+        (2, WAITING, "waiting"),
+    ] {
+        for (call, burnt) in calls {
+            let mut before = alone.clone();
+            before.queue[0] = before.queue[0].clone().awaits(2, due);
+            let mut after = before.clone().fuel(2, 30 - burnt);
+            after.queue[0].state = state;
+            let said = format!("{}:2.1 {}", word, burnt);
+            gives(&before.bytes(), call, &said, &after.bytes());
+            // on a dry tank, too
+            let dry = after.fuel(2, 0);
+            let (said, left) = match due {
+                0 => ("done 0", dry.clone().without(0)),
+                _ => ("refused:2 0", dry.clone()),
+            };
+            gives(
+                &dry.bytes(),
+                |locks| locks.finish(2, 1),
+                said,
+                &left.bytes(),
+            );
+        }
+    }
 }
 
 #[test]

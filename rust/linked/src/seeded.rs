@@ -31,8 +31,10 @@ fn list(random: &mut Random, most: usize, top: u8) -> Vec<u8> {
 }
 
 fn begin(random: &mut Random, tenant: u8, top: u8) -> Call {
+    // few, so that all of them come at times before the entry is promoted
     let awaited = match random.below(10) {
-        0..=6 => 0,
+        0..=5 => 0,
+        6..=8 => random.byte_between(1, 2),
         _ => random.byte_between(0, 16),
     };
     let most = random.one_of(&[2, 4, 8, 8, 8, 9]);
@@ -66,8 +68,8 @@ pub fn call(random: &mut Random, block: &[u8], top: u8) -> Call {
         random.byte_between(0, 17)
     };
     match random.below(20) {
-        0..=8 => begin(random, tenant, top),
-        9 => Call::Finish(tenant, serial),
+        0..=6 => begin(random, tenant, top),
+        7..=9 => Call::Finish(tenant, serial),
         10 | 11 => Call::Recheck(tenant, serial),
         12 | 13 => Call::Scan(tenant),
         14 => Call::Pick,
