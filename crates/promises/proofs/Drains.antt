@@ -175,11 +175,14 @@ module _ {p : Prices} (f : Fair p) (ms : List Meter) (q : List Request) (rest : 
       (λ runs. running-leaves (e .due) e refl runs s)
 
 -- ---- all of them, one after another
+repeated-length : (n : ℕ) (c : Call) (rest : List Call) → length (replicate n c ++ rest) ≡ n + length rest
+repeated-length n c rest = length-append (replicate n c) rest ∙ ap (λ (m : ℕ). m + length rest) (length-replicate n c)
+
 leaving-few : (e : Request) (rest : List Call) → e .due ≤ 15 → length (leaving e rest) ≤ 17 + length rest
 leaving-few e rest le =
-    let calls = replicate (e .due) (Deliver (e .tenant) (e .serial)) in
-    let tail : length (calls ++ Finish (e .tenant) (e .serial) ∷ rest) ≡ e .due + length (Finish (e .tenant) (e .serial) ∷ rest) = length-append calls (Finish (e .tenant) (e .serial) ∷ rest) ∙ ap (λ (n : ℕ). n + length (Finish (e .tenant) (e .serial) ∷ rest)) (length-replicate (e .due) (Deliver (e .tenant) (e .serial))) in
-    if-either (λ (cs : List Call). length (cs ++ (calls ++ Finish (e .tenant) (e .serial) ∷ rest)) ≤ 17 + length rest) (isBlocked (e .mode)) (omega (arith, tail, le)) (omega (arith, tail, le))
+    let finish = Finish (e .tenant) (e .serial) ∷ rest in
+    let tail = repeated-length (e .due) (Deliver (e .tenant) (e .serial)) finish in
+    if-either (λ (cs : List Call). length (cs ++ (replicate (e .due) (Deliver (e .tenant) (e .serial)) ++ finish)) ≤ 17 + length rest) (isBlocked (e .mode)) (omega (arith, tail, le)) (omega (arith, tail, le))
 
 few-calls : (ms : List Meter) (q : List Request) → SoundAny (tab ms q) → length (draining q) ≤ 17 * length q
 unfolding draining

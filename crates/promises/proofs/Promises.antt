@@ -1,4 +1,4 @@
--- Every promise of demand 3, over any fair price list and at document 01's.
+-- Every promise, over any fair price list and at document 01's.
 use mathlib.Core.Path.{refl}
 use native.Mathlib.Omega.{arith}
 use Rattle.rules.specs.Request.{size}
