@@ -105,12 +105,12 @@ pub record Step : Type 0 where
   pub call : Call
   pub outcome : Outcome
 
--- a sequence of calls: the table now, and the steps since its opening, the latest first
+-- a sequence of calls: the table now, and the steps since it began, the latest first
 pub record Run : Type 0 where
   pub table : Table
   pub steps : List Step
 
--- it begins at a table, and mostly at that of an opening
+-- it begins at any table, or at that of an opening
 abbrev pub from : Table → Run
 from t = record { table = t; steps = [] }
 
