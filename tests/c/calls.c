@@ -66,17 +66,25 @@ static void entry(uint8_t *block, int tenant, unsigned serial, int state, int aw
         block[121 + (uint8_t)writes[k]]++;
 }
 
-/* Tenant 1 runs 1.1 and waits with 1.2, which the second of two answers is due to; 2.1 is blocked behind 1.1. Tenant 2 holds its
- * one place; tenant 3 has places and no fuel. */
-static void base(uint8_t *block) {
+static void base_meters(uint8_t *block) {
     fresh(block, "312");
     fuel(block, 1, 40);
     fuel(block, 2, 30);
     serials(block, 1, 2);
     serials(block, 2, 1);
-    entry(block, 1, 1, FREE, 0, 0, "", "\x0a");
+}
+
+static void base_behind_first(uint8_t *block) {
     entry(block, 1, 2, WAITING, 2, 1, "\x14", "");
     entry(block, 2, 1, BLOCKED, 0, 0, "\x05", "\x0a\x0c");
+}
+
+/* Tenant 1 runs 1.1 and waits with 1.2, which the second of two answers is due to; 2.1 is blocked behind 1.1. Tenant 2 holds its
+ * one place; tenant 3 has places and no fuel. */
+static void base(uint8_t *block) {
+    base_meters(block);
+    entry(block, 1, 1, FREE, 0, 0, "", "\x0a");
+    base_behind_first(block);
 }
 
 /* Both blocks as the base. A test changes `now`, calls on it, and says in `due` what it shall then be. */
@@ -219,13 +227,8 @@ static void begins(void) {
 
 /* What is left of the base without 1.1. */
 static void base_without_first(uint8_t *block) {
-    fresh(block, "312");
-    fuel(block, 1, 40);
-    fuel(block, 2, 30);
-    serials(block, 1, 2);
-    serials(block, 2, 1);
-    entry(block, 1, 2, WAITING, 2, 1, "\x14", "");
-    entry(block, 2, 1, BLOCKED, 0, 0, "\x05", "\x0a\x0c");
+    base_meters(block);
+    base_behind_first(block);
 }
 
 static void finishes_and_searches(void) {

@@ -20,7 +20,7 @@ use Rattle.rules.proofs.Meters.{tenant-range}
 use Rattle.counters.specs.Counters.{at, Raised}
 use Rattle.block.specs.Clauses.{requestIn}
 use Rattle.block.specs.Check.{RowFits}
-use Rattle.rules.proofs.Order.{each-map}
+use Rattle.rules.proofs.Order.{each-first, each-rest, each-map}
 use Rattle.block.proofs.Each.{each-both, each-pair, each-of, each-under}
 
 -- a serial above its tenant's last
@@ -140,12 +140,6 @@ module _ (e : Request) (q : List Request) (left : List ℕ) (one : isTenant (e .
       go false h = let z = away who two h in omega (arith, w who two, z .0, z .1)
 
 -- ---- a turn of the pass
-head-of : {A : Type 0} {P : A → Type 0} {x : A} {l : List A} → Each P (x ∷ l) → P x
-head-of (also h all) = h
-
-tail-of : {A : Type 0} {P : A → Type 0} {x : A} {l : List A} → Each P (x ∷ l) → Each P l
-tail-of (also h all) = all
-
 ahead-of : {A : Type 0} {R : A → A → Type 0} {x : A} {l : List A} → InOrder R (x ∷ l) → Each (R x) l
 ahead-of (InOrder.also a o) = a
 
@@ -167,10 +161,10 @@ remembered l p wide fits = omega (arith, tenant-range (requestIn p .tenant) (row
 
 module _ (given : ℕ → ℕ) (last left : List ℕ) (ahead : List Request) (p : List ℕ) (ps : List (List ℕ)) where
   pub rest-fits : Rest given last left ahead (p ∷ ps) → RowFits p
-  rest-fits r = head-of (r .fits)
+  rest-fits r = each-first (r .fits)
 
   pub rest-clear : Rest given last left ahead (p ∷ ps) → Clear ahead (requestIn p)
-  rest-clear r = head-of (r .free)
+  rest-clear r = each-first (r .free)
 
   module _ (fits : RowFits p) (wide : length last ≡ 16) (wide' : length left ≡ 16) where
     abbrev e : Request
@@ -186,20 +180,20 @@ module _ (given : ℕ → ℕ) (last left : List ℕ) (ahead : List Request) (p 
     in-left = remembered left p wide' fits
 
     pub rest-follows : Rest given last left ahead (p ∷ ps) → Follows given last left (requestIn p)
-    rest-follows r = (head-of (r .past), head-of (r .known), places-some e (map requestIn ps) left one in-left (r .room))
+    rest-follows r = (each-first (r .past), each-first (r .known), places-some e (map requestIn ps) left one in-left (r .room))
 
     pub rest-tail : Past last (requestIn p) → Rest given last left ahead (p ∷ ps) → After given last left ahead (requestIn p) ps
     rest-tail above r =
-        let fs = tail-of (r .fits) in
+        let fs = each-rest (r .fits) in
         let later = each-under requestIn ps (ahead-of (r .rise)) in
         let behind = each-under requestIn ps (ahead-of (r .clear)) in
         record {
           fits = fs;
-          past = each-both (each-pair (tail-of (r .past)) later) fs (λ x q f. past-next e (requestIn x) one (row-tenant x f) last in-last above (q .0) (q .1));
-          known = tail-of (r .known);
+          past = each-both (each-pair (each-rest (r .past)) later) fs (λ x q f. past-next e (requestIn x) one (row-tenant x f) last in-last above (q .0) (q .1));
+          known = each-rest (r .known);
           rise = order-of (r .rise);
           room = places-tail e (map requestIn ps) left one in-left (r .room);
-          free = each-both (tail-of (r .free)) behind (λ x q s. clear-next ahead e (requestIn x) q s);
+          free = each-both (each-rest (r .free)) behind (λ x q s. clear-next ahead e (requestIn x) q s);
           clear = order-of (r .clear);
         }
 

@@ -14,6 +14,15 @@ fn tell() {
     );
 }
 
+// Prints the listing of what a descriptor gives, and answers whether all of it was written. One byte past 65,536 is enough to
+// know that a file is too long.
+fn listed(fd: i32) -> bool {
+    let mut file = [0u8; 65537];
+    let n = io::read_full(fd, &mut file);
+    let printed = replay::print::listing(&file[..n]);
+    printed.all
+}
+
 fn main() {
     let mut n: u8 = 0;
     while n < 100 {
@@ -22,7 +31,7 @@ fn main() {
         if fd < 0 {
             break;
         }
-        let written = replay::print::listing_of(fd);
+        let written = listed(fd);
         libc::close(fd);
         if !written {
             tell();

@@ -23,7 +23,7 @@ use Rattle.rules.specs.Runs.{Call, Step, Run, step, isOpen, after, runOf, numbe
 use Rattle.rules.specs.Runs.Call.{Begin, Finish, Recheck, Scan, Open, Grant, Pick, Deliver}
 use Rattle.rules.proofs.Tests.{if-either, if-cases}
 use Rattle.rules.proofs.Requests.{delivered-as}
-use Rattle.rules.proofs.Order.{each-map, each-all}
+use Rattle.rules.proofs.Order.{each-map, each-all, each-first}
 use Rattle.rules.proofs.Keeps.{sound-removed}
 use Rattle.rules.proofs.Sound.{pick-keeps, deliver-keeps}
 use Rattle.promises.specs.Fuel.{Fair, reached}
@@ -100,10 +100,7 @@ front-entry : (e : Request) (q : List Request) → entryOf (e .tenant) (e .seria
 front-entry e q = ap (λ (n : ℕ). getD (e ∷ q) n nobody) (front-at e q)
 
 front-fit : {ms : List Meter} {e : Request} {q : List Request} → SoundAny (tab ms (e ∷ q)) → Fit (givenBy (tab ms (e ∷ q))) e
-front-fit s = first (s .entries)
-  where
-    first : {P : Request → Type 0} {x : Request} {xs : List Request} → Each P (x ∷ xs) → P x
-    first (Each.also p h) = p
+front-fit s = each-first (s .entries)
 
 -- ---- Deliver, where an answer is due
 front-row : (ms : List Meter) (e : Request) (q : List Request) → isTenant (e .tenant) ≡ true → 0 < e .due → firstOf (deliverRows (tab ms (e ∷ q)) (e .tenant) (e .serial)) ≡ 0

@@ -4,6 +4,7 @@ use mathlib.Core.Path.{_≡_}
 use mathlib.Core.Bool.{true}
 use mathlib.Core.List.{List, [], _∷_}
 use lib.Dec.{ltb}
+use lib.ListN.{replicate}
 use Rattle.rules.specs.declared.Mode.the-variants.{Free, Waiting}
 use Rattle.rules.specs.Lists.{if_then_else_, every}
 use Rattle.rules.specs.Request.{Request, requested, withMode, isBlocked, promoted}
@@ -25,7 +26,7 @@ pickedBy01 (e ∷ q) = (if isBlocked (e .mode) then promotedBy01 e else e) ∷ q
 
 -- tenant 1's second request awaits one answer, has it while it is Blocked, and is the front then
 abbrev pub fourEach : List ℕ
-fourEach = 4 ∷ 4 ∷ 4 ∷ 4 ∷ 4 ∷ 4 ∷ 4 ∷ 4 ∷ 4 ∷ 4 ∷ 4 ∷ 4 ∷ 4 ∷ 4 ∷ 4 ∷ 4 ∷ []
+fourEach = replicate 16 4
 
 abbrev pub earlyAnswer : List Call
 earlyAnswer = Grant 1 100 ∷ Begin 1 0 [] (7 ∷ []) ∷ Begin 1 1 [] (7 ∷ []) ∷ Deliver 1 2 ∷ Finish 1 1 ∷ []

@@ -3,3 +3,4 @@ pub mod Stepping
 pub mod Lines
 pub mod Pieces
 pub mod Listings
+pub mod Prints

@@ -1,3 +1,4 @@
 pub mod Replay
 pub mod Pieces
 pub mod Listings
+pub mod Prints

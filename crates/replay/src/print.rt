@@ -1,29 +1,56 @@
 // The listing of an event file, on standard output.
+ghost use Prim.Native.Nat.{_<_};
+ghost use mathlib.Core.Path.{_≡_};
+ghost use mathlib.Core.Bool.{true};
+ghost use lib.ListN.{length};
+ghost use Rattle.replay.specs.Prints.{Prints};
 use super::piece;
 use libc::STDOUT_FILENO;
 
-// Each piece is written whole, up to the first that cannot be. Answers whether all of them were written.
-fn listing(bytes: &[u8]) -> bool {
+// What came of it: whether all of the listing was written, and how many of its bytes were before the first piece that was not.
+pub struct Printed {
+    pub all: bool,
+    pub bytes: usize,
+}
+
+// Whether the bytes could not be written, or not all of them. Where there are none, that is no failure.
+fn fails(bytes: &[u8]) -> bool
+    ensures { λ r. ⌜ (r ≡ true → 0 < length (now (bytes .entry))) ⌝ }
+{
+    if bytes.len() == 0 {
+        return false;
+    }
+    !io::write_all(STDOUT_FILENO, bytes)
+}
+
+// Each piece is written whole, up to the first that cannot be. What the operating system does with the bytes no contract can
+// say; it can say that all are told to be written only where the pieces that were make up the listing.
+pub fn listing(bytes: &[u8]) -> Printed
+    ensures { λ r. ⌜ Prints (now (bytes .entry)) r ⌝ }
+{
     let mut out = [0u8; 65536];
     let mut p = piece::opened(bytes, &mut out);
     let first = p.len;
-    if !io::write_all(STDOUT_FILENO, &out[..first]) {
-        return false;
+    if fails(&out[..first]) {
+        return Printed {
+            all: false,
+            bytes: 0,
+        };
     }
+    let mut done = first;
     while p.more {
         p = piece::filled(p, bytes, &mut out);
         let n = p.len;
-        if !io::write_all(STDOUT_FILENO, &out[..n]) {
-            return false;
+        if fails(&out[..n]) {
+            return Printed {
+                all: false,
+                bytes: done,
+            };
         }
+        done += n;
     }
-    true
-}
-
-// The listing of what a descriptor gives: one byte past 65,536 is enough to know that it is too long. Answers whether all of it
-// was written, of which no contract can speak: the operating system alone knows.
-pub fn listing_of(fd: i32) -> bool {
-    let mut buf = [0u8; 65537];
-    let n = io::read_full(fd, &mut buf);
-    listing(&buf[..n])
+    Printed {
+        all: true,
+        bytes: done,
+    }
 }

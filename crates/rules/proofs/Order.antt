@@ -17,6 +17,12 @@ module _ {A : Type 0} where
   each-at (Each.also p h) zero d lt = p
   each-at (Each.also p h) (suc i) d lt = each-at h i d (le-of-suc-le-suc lt)
 
+  pub each-first : {P : A → Type 0} {x : A} {xs : List A} → Each P (x ∷ xs) → P x
+  each-first (Each.also p h) = p
+
+  pub each-rest : {P : A → Type 0} {x : A} {xs : List A} → Each P (x ∷ xs) → Each P xs
+  each-rest (Each.also p h) = h
+
   pub each-map : {P Q : A → Type 0} {xs : List A} → ((x : A) → P x → Q x) → Each P xs → Each Q xs
   each-map f Each.none = Each.none
   each-map f (Each.also {x = x} p h) = Each.also (f x p) (each-map f h)

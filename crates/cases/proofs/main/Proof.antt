@@ -9,7 +9,7 @@ use Rattle.cases.proofs.digit.Reads as digit-reads
 use Rattle.cases.proofs.tell.Reads as tell-reads
 use Rattle.libc.proofs.close.Reads as close-reads
 use Rattle.os.proofs.open_read.Reads as open-read-reads
-use Rattle.replay.proofs.print.listing_of.Reads as listing-of-reads
+use Rattle.cases.proofs.listed.Reads as listed-reads
 
 abbrev Inv-loop : tie.InvT-loop
 Inv-loop n₀ n = n ≤ 100
@@ -32,8 +32,8 @@ slice-aggregate-open-read c = search needs
 open-read-requires : tie.Need-open-read-requires Inv-loop μ-loop
 open-read-requires c κs = search needs
 
-listing-of-requires : tie.Need-listing-of-requires Inv-loop μ-loop
-listing-of-requires c κs = search needs
+listed-requires : tie.Need-listed-requires Inv-loop μ-loop
+listed-requires c κs = search needs
 
 close-requires : tie.Need-close-requires Inv-loop μ-loop
 close-requires c κs = search needs
@@ -70,7 +70,7 @@ main-spec =
     digit-requires-2
     slice-aggregate-open-read
     open-read-requires
-    listing-of-requires
+    listed-requires
     close-requires
     tell-requires
     add-n
