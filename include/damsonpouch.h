@@ -31,7 +31,7 @@ extern "C" {
 /* What a call hands back. A field that the kind has no use for is 0. */
 typedef struct damsonpouch_reply {
     uint8_t kind;    /* DAMSONPOUCH_OK to DAMSONPOUCH_ENTRY */
-    uint8_t number;  /* of DAMSONPOUCH_REFUSED: which refusal, 1 to 15 */
+    uint8_t number;  /* of DAMSONPOUCH_REFUSED: which refusal, 1 to 15, and never 5 */
     uint8_t state;   /* of DAMSONPOUCH_ENTRY: the entry's state after the call */
     uint8_t tenant;  /* of DAMSONPOUCH_ENTRY: its tenant, 1 to 16 */
     uint16_t serial; /* of DAMSONPOUCH_ENTRY: its serial, 1 to 65,535 */
@@ -60,9 +60,10 @@ enum {
 enum {
     DAMSONPOUCH_NO_SUCH_TENANT = 1,   /* the tenant number is not 1 to 16; burns 0 */
     DAMSONPOUCH_DRY = 2,              /* the tenant's fuel is 0; burns 0. Not given by Finish of a Free entry */
-    DAMSONPOUCH_TOO_MANY_RECORDS = 3, /* more than 8 reads or more than 8 writes; burns 1 */
-    DAMSONPOUCH_NOT_RISING = 4,       /* reads or writes do not strictly rise; burns 1 */
-    DAMSONPOUCH_IN_BOTH_LISTS = 5,    /* a record is in both lists; burns 1 */
+    DAMSONPOUCH_TOO_MANY_RECORDS = 3, /* more than 8 reads or more than 8 writes, as they are given; burns 1 */
+    DAMSONPOUCH_NOT_RISING = 4,       /* the writes do not strictly rise, or the reads do not, without those that are written
+                                         too; burns 1 */
+    /* 5, once of a record in both lists, is no longer given; its number stays unused */
     DAMSONPOUCH_AWAITED_TOO_HIGH = 6, /* awaited is above 15; burns 1 */
     DAMSONPOUCH_SHARE_HELD = 7,       /* the tenant already holds as many places as its share; burns 1 */
     DAMSONPOUCH_SERIALS_GIVEN = 8,    /* the tenant has been given all 65,535 serials; burns 1 */
@@ -85,8 +86,10 @@ damsonpouch_reply damsonpouch_open(uint8_t *block, size_t length, const uint8_t 
 damsonpouch_reply damsonpouch_grant(uint8_t *block, size_t length, uint8_t tenant, uint32_t amount);
 
 /* A tenant's call: asks for all locks of a request at once, which joins the back of the queue; burns 2 + 2n for n records, reads
- * and writes together. Answers with the new entry: Blocked if it conflicts with an entry ahead, else Waiting if `awaited` is
- * above 0, and else Free. Refusals: 15, 1 to 9. */
+ * and writes together. A record may stand in both lists. It then counts as written only, and once in n: the entry has it among
+ * its writes alone. Each list has at most 8 records as given, and must strictly rise once the written ones are taken out of the
+ * reads. Answers with the new entry: Blocked if it conflicts with an entry ahead, else Waiting if `awaited` is above 0, and else
+ * Free. Refusals: 15, 1 to 9; of these 5 is no longer given. */
 damsonpouch_reply damsonpouch_begin(uint8_t *block, size_t length, uint8_t tenant, uint8_t awaited, const uint8_t *reads,
     size_t reads_length, const uint8_t *writes, size_t writes_length);
 

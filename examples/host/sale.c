@@ -1,5 +1,5 @@
-/* A sale like that of examples/sale.txt, in C: a shop counts its lamps while a seller wants to sell one. In the repository's
- * folder:
+/* A sale like that of examples/sale.txt, in C: a shop counts its lamps while a seller wants to sell one, which reads the stock
+ * and writes it back. In the repository's folder:
  *
  *     rt staticlib damsonpouch
  *     gcc -O2 -Iinclude examples/host/sale.c target/staticlib/libdamsonpouch.a -o sale
@@ -47,10 +47,11 @@ int main(void) {
     told("grant the shop 60", damsonpouch_grant(block, length, SHOP, 60));
     told("grant the seller 60", damsonpouch_grant(block, length, SELLER, 60));
 
-    const uint8_t lamps[] = {LAMPS}, till[] = {TILL}, prices[] = {PRICES};
+    const uint8_t lamps[] = {LAMPS}, till[] = {TILL}, prices[] = {PRICES}, stock[] = {LAMPS, PRICES};
     damsonpouch_reply count = told("the shop counts its lamps", damsonpouch_begin(block, length, SHOP, 0, NULL, 0, lamps, 1));
     damsonpouch_reply book = told("and books its takings", damsonpouch_begin(block, length, SHOP, 0, prices, 1, till, 1));
-    damsonpouch_reply sale = told("the seller sells a lamp", damsonpouch_begin(block, length, SELLER, 0, prices, 1, lamps, 1));
+    /* The sale reads the lamps and writes them back. In both lists they count as written only: two records in all. */
+    damsonpouch_reply sale = told("the seller sells a lamp", damsonpouch_begin(block, length, SELLER, 0, stock, 2, lamps, 1));
 
     told("the seller looks, too early", damsonpouch_scan(block, length, SELLER));
     told("it cannot finish yet", damsonpouch_finish(block, length, SELLER, sale.serial));

@@ -225,6 +225,75 @@ static void begins(void) {
     PLAIN(FINISH(1, 65535), DAMSONPOUCH_DONE);
 }
 
+/* A Begin of tenant 1 on the base, with these lists as given, is stored with those: 1.3, Free, at this price. It is admitted on a
+ * tank of just the price, and refused with 9 on one unit less. */
+static void reduces(int line, const char *reads, const char *writes, const char *only_read, const char *written, uint32_t price) {
+    const size_t r = strlen(reads), w = strlen(writes);
+    start();
+    fuel(now, 1, price);
+    fuel(due, 1, 0);
+    serials(due, 1, 3);
+    entry(due, 1, 3, FREE, 0, 0, only_read, written);
+    same_reply(line, BEGIN(1, 0, reads, r, writes, w), DAMSONPOUCH_ENTRY, 0, FREE, 1, 3, price);
+    same_block(line);
+    start();
+    fuel(now, 1, price - 1);
+    fuel(due, 1, price - 2);
+    same_reply(line, BEGIN(1, 0, reads, r, writes, w), DAMSONPOUCH_REFUSED, DAMSONPOUCH_FUEL_BELOW_PRICE, 0, 0, 0, 1);
+    same_block(line);
+}
+
+/* Tenants 1 and 2 have two places each; 1.1 writes 7. */
+static void stock(uint8_t *block, uint32_t units) {
+    fresh(block, "22");
+    fuel(block, 2, units);
+    serials(block, 1, 1);
+    entry(block, 1, 1, FREE, 0, 0, "", "\x07");
+}
+
+/* A record in both lists counts as written only: it raises Cx and not Cs, is counted once in n, and is stored among the writes
+ * alone. */
+static void overlaps(void) {
+    static const uint8_t seven[] = {7}, eight[] = {30, 31, 32, 33, 34, 35, 36, 37};
+    reduces(__LINE__, "\x07", "\x07", "", "\x07", 4);
+    reduces(__LINE__, "\x07\x07", "\x07", "", "\x07", 4);
+    reduces(__LINE__, "\x09\x03", "\x09", "\x03", "\x09", 6);
+    reduces(__LINE__, "\x07\x15", "\x07", "\x15", "\x07", 6);
+    reduces(__LINE__, "\xff\x01\xff\x02", "\x03\xff", "\x01\x02", "\x03\xff", 10);
+    reduces(__LINE__, "\x06\x07\x08", "\x06\x07\x08", "", "\x06\x07\x08", 8);
+
+    /* one list in memory for both */
+    start();
+    fuel(due, 1, 22);
+    serials(due, 1, 3);
+    entry(due, 1, 3, FREE, 0, 0, "", "\x1e\x1f\x20\x21\x22\x23\x24\x25");
+    NAMES(BEGIN(1, 0, eight, 8, eight, 8), FREE, 1, 3, 18);
+
+    /* two that read and write 7, in every mix with one that only writes it: the second is Blocked */
+    for (int both = 0; both < 2; both++) {
+        fresh(now, "22");
+        fuel(now, 1, 4);
+        fuel(now, 2, 4);
+        stock(due, 4);
+        NAMES(BEGIN(1, 0, seven, both, seven, 1), FREE, 1, 1, 4);
+        stock(now, 4);
+        stock(due, 0);
+        serials(due, 2, 1);
+        entry(due, 2, 1, BLOCKED, 0, 0, "", "\x07");
+        NAMES(BEGIN(2, 0, seven, both, seven, 1), BLOCKED, 2, 1, 4);
+    }
+    /* a reader of 7 waits behind them; one of another record, which it writes too, does not */
+    stock(now, 8);
+    stock(due, 4);
+    serials(due, 2, 1);
+    entry(due, 2, 1, BLOCKED, 0, 0, "\x07", "");
+    NAMES(BEGIN(2, 0, seven, 1, NULL, 0), BLOCKED, 2, 1, 4);
+    fuel(due, 2, 0);
+    serials(due, 2, 2);
+    entry(due, 2, 2, FREE, 0, 0, "", "\x09");
+    NAMES(BEGIN(2, 0, "\x09\x09", 2, "\x09", 1), FREE, 2, 2, 4);
+}
+
 /* What is left of the base without 1.1. */
 static void base_without_first(uint8_t *block) {
     base_meters(block);
@@ -335,8 +404,13 @@ static void refusals_3_to_8(void) {
     CHARGES(BEGIN(1, 0, long_list, 256, long_list, 256), 3);
     CHARGES(BEGIN(1, 0, NULL, 0, "\x07\x07", 2), DAMSONPOUCH_NOT_RISING);
     CHARGES(BEGIN(1, 16, "\x08\x07", 2, NULL, 0), 4);
-    CHARGES(BEGIN(1, 16, "\x07", 1, "\x07", 1), DAMSONPOUCH_IN_BOTH_LISTS);
-    CHARGES(BEGIN(1, 16, NULL, 0, "\x07", 1), DAMSONPOUCH_AWAITED_TOO_HIGH);
+    /* with a record in both lists: 3 goes by the lists as given, 4 by the reduced ones, and 5 is no longer given */
+    CHARGES(BEGIN(1, 16, long_list, 9, long_list, 8), 3);
+    CHARGES(BEGIN(1, 0, "\x07\x07\x07\x07\x07\x07\x07\x07\x07", 9, "\x07", 1), 3);
+    CHARGES(BEGIN(1, 16, "\x03\x09\x03", 3, "\x09", 1), 4);
+    CHARGES(BEGIN(1, 16, "\x07", 1, "\x07\x07", 2), 4);
+    CHARGES(BEGIN(1, 16, "\x07", 1, "\x07", 1), DAMSONPOUCH_AWAITED_TOO_HIGH);
+    CHARGES(BEGIN(1, 16, NULL, 0, "\x07", 1), 6);
     CHARGES(BEGIN(1, 255, NULL, 0, NULL, 0), 6);
     start();
     fuel(due, 2, 29);
@@ -501,6 +575,7 @@ int main(void) {
     opens();
     grants();
     begins();
+    overlaps();
     finishes_and_searches();
     picks_and_delivers();
     promotes();

@@ -1,10 +1,10 @@
 -- The clauses of item 1 and the block of a sound table say the same.
-use Prim.Native.Nat.{ℕ, _+_, _-_, _*_, _≤_}
+use Prim.Native.Nat.{ℕ, _+_, _*_, _≤_}
 use mathlib.Core.Path.{_≡_, sym, subst}
 use mathlib.Core.List.{List}
 use native.Mathlib.Omega.{arith}
 use lib.ListN.{getD}
-use Rattle.rules.specs.Records.{WellFormed}
+use Rattle.rules.specs.Records.{Stored}
 use Rattle.rules.specs.Request.{Request}
 use Rattle.rules.specs.Lists.{total}
 use Rattle.rules.specs.Table.{Table, Meter, meterOf, placesOf, mostFuel, mostSerials}
@@ -34,7 +34,7 @@ module _ (b : List ℕ) (small : Small b) (k : Clauses b) where
   fits =
       let numbers = each-pair (k .limits .awaited) (k .due) in
       let named = each-pair (k .tenants .range) (each-pair (k .serials .from-one) (k .serials .to-given)) in
-      let lists : Each (λ e. WellFormed (e .reads) (e .writes)) (queueIn b) = each-of requestIn (rowsIn b) (each-map (λ p l. l .formed) (k .lists)) in
+      let lists : Each (λ e. Stored (e .reads) (e .writes)) (queueIn b) = each-of requestIn (rowsIn b) (each-map (λ p l. l .formed) (k .lists)) in
       each-both (each-pair numbers named) (each-pair (k .suits) lists)
       (λ e x y. record {
         awaited = x .0 .0;

@@ -8,7 +8,7 @@ use lib.ListN.{length, getD, take, drop, replicate, length-append, length-drop}
 use lib.Seq.{length-take-le, take-append-seam, drop-append-seam, drop-append-add, take-at, drop-at, drop-drop}
 use Rattle.rules.specs.declared.Mode.{Mode}
 use Rattle.rules.specs.declared.Mode.the-variants.{Free, Waiting, Blocked}
-use Rattle.rules.specs.Records.{WellFormed}
+use Rattle.rules.specs.Records.{Stored}
 use Rattle.rules.specs.Request.{Request}
 use Rattle.rules.specs.Table.{Meter}
 use Rattle.rules.specs.Sound.{Each}
@@ -90,9 +90,9 @@ module _ (e : Request) (few-reads : length (e .reads) ≤ 8) (few-writes : lengt
       let p = e .tenant ∷ e .serial / 256 ∷ e .serial % 256 ∷ code (e .mode) ∷ e .awaited ∷ e .due ∷ length r ∷ length w ∷ padded 16 (r ++ w) in
       sym (drop-drop n 8 p) ∙ drop-at (r ++ w) z n both ∙ ap (λ (k : ℕ). replicate (16 - k) 0) both
 
-pub entry-keeps : (e : Request) → WellFormed (e .reads) (e .writes) → ListsKeep (entryBytes e)
+pub entry-keeps : (e : Request) → Stored (e .reads) (e .writes) → ListsKeep (entryBytes e)
 unfolding entryBytes
-entry-keeps e f = record { few-reads = f .few-reads; few-writes = f .few-writes; formed = subst (λ (x : Request). WellFormed (x .reads) (x .writes)) (sym (entry-read e (f .few-reads) (f .few-writes))) f }
+entry-keeps e f = record { few-reads = f .few-reads; few-writes = f .few-writes; formed = subst (λ (x : Request). Stored (x .reads) (x .writes)) (sym (entry-read e (f .few-reads) (f .few-writes))) f }
 
 -- ---- rows of w bytes each
 pub flat-length : {A : Type 0} (f : A → List ℕ) (w : ℕ) (l : List A) → Each (λ x. length (f x) ≡ w) l → length (flat f l) ≡ length l * w

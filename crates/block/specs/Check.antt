@@ -5,7 +5,7 @@ use mathlib.Core.Bool.{Bool, true, false}
 use mathlib.Core.List.{List}
 use lib.ListN.{getD}
 use Rattle.rules.specs.Lists.{total}
-use Rattle.rules.specs.Records.{WellFormed}
+use Rattle.rules.specs.Records.{Stored}
 use Rattle.rules.specs.Table.{isTenant, mostFuel}
 use Rattle.rules.specs.Sound.{Each, InOrder, ClearOf}
 use Rattle.block.specs.Clauses.{requestIn, metersIn, rowsIn, queueIn, RestZero, Suited, Tenants, Serials, Counted}
@@ -22,7 +22,7 @@ pub record MetersFit (b : List ℕ) : Type 0 where
 
 -- the clauses that the 24 bytes of an entry tell by themselves: on its lists, and on its numbers
 pub record ListsFit (p : List ℕ) : Type 0 where
-  pub lists : WellFormed (requestIn p .reads) (requestIn p .writes)
+  pub lists : Stored (requestIn p .reads) (requestIn p .writes)
   pub rest : RestZero p
 
 pub record NumbersFit (p : List ℕ) : Type 0 where

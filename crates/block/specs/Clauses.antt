@@ -8,7 +8,7 @@ use lib.ListN.{length, getD, take, drop, replicate}
 use Rattle.rules.specs.declared.Mode.{Mode}
 use Rattle.rules.specs.declared.Mode.the-variants.{Free, Waiting, Blocked}
 use Rattle.rules.specs.Lists.{total}
-use Rattle.rules.specs.Records.{WellFormed}
+use Rattle.rules.specs.Records.{Stored}
 use Rattle.rules.specs.Request.{Request, size, isFree, isWaiting, isBlocked}
 use Rattle.rules.specs.Table.{Table, Meter, isTenant, meterOf, placesOf, mostFuel}
 use Rattle.rules.specs.Counters.{cx, cs}
@@ -120,7 +120,7 @@ Suited e = Suits (e .mode) (e .due) (size e)
 pub record ListsKeep (p : List ℕ) : Type 0 where
   pub few-reads : getD p 6 0 ≤ 8
   pub few-writes : getD p 7 0 ≤ 8
-  pub formed : WellFormed (requestIn p .reads) (requestIn p .writes)
+  pub formed : Stored (requestIn p .reads) (requestIn p .writes)
 
 pub record Counted (b : List ℕ) : Type 0 where
   pub writers : part b 121 256 ≡ tab (cx (queueIn b)) 256

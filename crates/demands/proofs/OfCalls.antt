@@ -63,6 +63,7 @@ module _ (s : CodeStep) (m : Made s) where
   of-call = record {
     refusals = λ shut h. let r = refused shut h in record { state = untouched (m .sound) (m .did .sound) (r .same); burnt = r .burnt };
     refused-opens = λ shares is. seen-as (λ o. eqb (number o) 0 ≡ false → RefusedOpen o) (Open shares) is (promised .refuses-open shares);
+    never-five = seen-by (λ o. eqb (number o) 5 ≡ false) (promised .never-five t (s .call));
     rules = record {
       outcome = did-seen (m .did);
       exclusive = m .did .sound .tied .writers .each;

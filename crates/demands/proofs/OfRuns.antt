@@ -1,22 +1,28 @@
 -- What the promises say of the law book's runs, they say of the real ones, which are those seen through the view.
+use Prim.Native.Nat.{_+_}
 use mathlib.Core.Path.{_≡_, sym, ap, subst, _∙_}
 use mathlib.Core.Bool.{false}
 use mathlib.Core.List.{List}
+use Rattle.rules.specs.declared.Mode.the-variants.{Blocked}
+use Rattle.rules.specs.declared.Answer.the-variants.{Named}
 use Rattle.rules.specs.Prices.{clause9}
-use Rattle.rules.specs.Sound.{Each}
-use Rattle.rules.specs.Runs.{Call, Run, isOpen, runOf}
+use Rattle.rules.specs.Table.{Table}
+use Rattle.rules.specs.Calls.{Outcome}
+use Rattle.rules.specs.Sound.{Each, givenBy}
+use Rattle.rules.specs.Runs.{Call, Run, step, isOpen, runOf}
 use Rattle.rules.proofs.Tests.{if-either}
 use Rattle.rules.proofs.Order.{each-map}
 use Rattle.rules.proofs.Sound.{sound-any}
 use Rattle.promises.specs.Fuel.{PricesPaid, Balanced, Counted}
 use Rattle.promises.specs.Names.{NamesDiffer, HasLeft, isQueued}
 use Rattle.promises.specs.Drains.{NoneHangs, draining, Drained}
+use Rattle.promises.specs.Sales.{Ask, begin, meeting, Meet}
 use Rattle.promises.specs.Promises.{Promises}
 use Rattle.promises.proofs.Promises.{at-clause9}
 use Rattle.manager.specs.declared.State.{State}
 use Rattle.manager.specs.State.{view, Sound}
 use Rattle.manager.specs.Runs.{CodeRun, Ran, uncalled, called, seenRun}
-use Rattle.manager.proofs.Runs.{ran-run, code-runs-faithfully}
+use Rattle.manager.proofs.Runs.{did-seen, ran-run, code-runs-faithfully}
 use Rattle.demands.specs.OfCalls.{Made}
 use Rattle.demands.specs.OfRuns.{EveryRun}
 use Rattle.demands.proofs.OfCalls.{every-call}
@@ -26,6 +32,10 @@ ran-made : {run last : CodeRun} {cs : List Call} {rs : List State} → Ran run c
 ran-made uncalled h all = all
 ran-made {run} (called c r d more) h all =
     ran-made more (d .sound) (if-either (Each Made) (isOpen c) Each.none (Each.also (record { sound = h; did = d }) all))
+
+-- the law book's Begin at this table is Blocked
+abbrev Waits : Ask → Table → Type 0
+Waits b t = step clause9 t (begin b) .answer ≡ Named Blocked (b .who) (givenBy t (b .who) + 1)
 
 pub every-run : EveryRun
 every-run shares first cs rs last real =
@@ -46,4 +56,8 @@ every-run shares first cs rs last real =
       drains = λ outcomes end ran.
           let t = view (last .state) in
           subst (Drained t (draining (t .queue))) (ran-run ran) (promised .drains t (sound-any (faithful .last-sound .table)));
+      second-sale = λ a b between r outcomes end gave ran did met share.
+          let law = of (λ run. Meet clause9 run a b between → Waits b (meeting clause9 run a between)) (λ m. promised .second-waits shares cs between a b r m share) in
+          let waits = subst (λ run. Waits b (run .table)) (ran-run ran) (law met) in
+          ap (λ (o : Outcome). o .answer) (did-seen did) ∙ waits;
     }

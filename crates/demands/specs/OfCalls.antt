@@ -174,6 +174,8 @@ pub record OfCall (s : CodeStep) : Type 0 where
   -- demand 1
   pub refusals : Refusals s
   pub refused-opens : RefusedOpens s
+  -- document 02, item 4: "5 is no longer given"
+  pub never-five : eqb (number (outcomeOf s)) 5 ≡ false
   -- demand 2
   pub rules : ByTheRules s
   pub search-promotes : SearchPromotes s

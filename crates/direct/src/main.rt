@@ -247,7 +247,7 @@ fn strangers() -> State
     scan(51, s, 1)
 }
 
-// Refusals 3 to 6: lists of 9 and of 200 records, lists that do not rise or that meet, too many answers.
+// Refusals 3, 4 and 6: lists of 9 and of 200 records, lists that do not rise, one of them for what is left of it, too many answers.
 fn lists(s: State) -> State
     requires { ⌜ Sound s ⌝ }
     ensures { λ r. ⌜ Sound r ⌝ }
@@ -259,7 +259,7 @@ fn lists(s: State) -> State
     let s = begin(56, s, 1, 0, &[], &[7; 200]);
     let s = begin(57, s, 1, 0, &[], &[7, 7]);
     let s = begin(58, s, 1, 0, &[9, 3], &[]);
-    let s = begin(59, s, 1, 0, &[7], &[7]);
+    let s = begin(59, s, 1, 0, &[9, 3, 9, 1], &[9]);
     let s = begin(60, s, 1, 16, &[], &[]);
     begin(61, s, 1, 255, &[], &[])
 }
@@ -347,6 +347,20 @@ fn afterwards(s: State) -> State
     finish(109, s, 2, 2)
 }
 
+// A record in both lists is written only: it is counted once, and the order of the reads is judged without it.
+fn sales(s: State) -> State
+    requires { ⌜ Sound s ⌝ }
+    ensures { λ r. ⌜ Sound r ⌝ }
+{
+    let s = begin(110, s, 2, 0, &[7, 7], &[7]);
+    let s = begin(111, s, 2, 0, &[9, 3, 7], &[7, 9]);
+    verdicts(s);
+    let s = recheck(112, s, 2, 4);
+    let s = finish(113, s, 2, 3);
+    let s = scan(114, s, 2);
+    finish(115, s, 2, 4)
+}
+
 fn main() {
     put(listing::header());
     let s = calls();
@@ -358,5 +372,6 @@ fn main() {
     poor(s);
     openings();
     let s = numbered();
-    afterwards(s);
+    let s = afterwards(s);
+    sales(s);
 }

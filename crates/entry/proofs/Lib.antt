@@ -1,3 +1,4 @@
 pub mod Typed
 pub mod Touches
 pub mod Ahead
+pub mod Sieving

@@ -6,6 +6,7 @@ use lib.ListN.{length, take, drop, replicate}
 use Rattle.rules.specs.declared.Mode.the-variants.{Free}
 use Rattle.rules.specs.Request.{Request}
 use Rattle.entry.specs.declared.Entry.{Entry}
+use Rattle.entry.specs.declared.Sieved.{Sieved}
 
 -- the entry of an unused slot; shut, so that goals show its name
 unfoldable pub noEntry : Entry
@@ -37,6 +38,18 @@ request e = record {
   writes = take (e .nw) (e .writes);
 }
 
+-- the request under another serial
+abbrev pub withSerial : Request → ℕ → Request
+withSerial e n = record {
+  tenant = e .tenant;
+  serial = n;
+  mode = e .mode;
+  awaited = e .awaited;
+  due = e .due;
+  reads = e .reads;
+  writes = e .writes;
+}
+
 -- at most 8 reads and 8 writes, "unused ones zero"
 pub record Tidy (e : Entry) : Type 0 where
   pub few-reads : e .nr ≤ 8
@@ -48,6 +61,11 @@ pub record Tidy (e : Entry) : Type 0 where
 pub record Kept (list r : List ℕ) : Type 0 where
   pub first : take (length list) r ≡ list
   pub rest : drop (length list) r ≡ replicate (8 - length list) 0
+
+-- r has the records of the list, and says how many they are
+pub record Sieves (list : List ℕ) (r : Sieved) : Type 0 where
+  pub count : r .n ≡ length list
+  pub kept : Kept list (r .list)
 
 -- r is a tidy entry that holds the request e
 pub record Stands (e : Request) (r : Entry) : Type 0 where

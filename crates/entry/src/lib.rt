@@ -1,4 +1,4 @@
-// One request as a slot of the queue holds it; tests of lent lists; when two entries conflict.
+// One request as a slot of the queue holds it; tests of lent lists, and what is stored of them; when two entries conflict.
 ghost use mathlib.Core.Path.{_≡_};
 ghost use mathlib.Core.Bool.{_&&_};
 ghost use mathlib.Core.List.{map};
@@ -7,10 +7,10 @@ ghost use lib.Dec.{eqb, ltb};
 ghost use lib.ListN.{length, take};
 ghost use Rattle.rules.specs.declared.Mode.the-variants.{Free};
 ghost use Rattle.rules.specs.Lists.{if_then_else_};
-ghost use Rattle.rules.specs.Records.{member, rising, meets};
-ghost use Rattle.rules.specs.Request.{requested, size as sizeOf, conflict, conflictsAny, isFree, isWaiting, isBlocked, withMode, withDue, promoted as promotedOf, delivered as deliveredOf};
+ghost use Rattle.rules.specs.Records.{member, rising, meets, onlyRead};
+ghost use Rattle.rules.specs.Request.{requested, reduced, size as sizeOf, conflict, conflictsAny, isFree, isWaiting, isBlocked, withMode, withDue, promoted as promotedOf, delivered as deliveredOf};
 ghost use Rattle.rules.specs.Calls.{named as namedOf};
-ghost use Rattle.entry.specs.Entry.{noEntry, request, Tidy, Stands, Kept};
+ghost use Rattle.entry.specs.Entry.{noEntry, request, withSerial, Tidy, Stands, Kept, Sieves};
 ghost use Rattle.entry.specs.Touch.{touchAt};
 use rules::Answer;
 use rules::Mode;
@@ -112,27 +112,97 @@ fn kept(list: &[u8]) -> [u8; 8]
     out
 }
 
-// An entry made from lent lists, as it is asked for.
-pub fn made(tenant: u8, serial: u16, awaited: u8, reads: &[u8], writes: &[u8]) -> Entry
+// Records at the front of an array of 8, and how many they are.
+struct Sieved {
+    n: u8,
+    list: [u8; 8],
+}
+
+// The reads that are not written, in their order: a record in both lists counts as written only.
+fn only_read(reads: &[u8], writes: &[u8]) -> Sieved
+    requires { ⌜ length (now reads) ≤ 8 ⌝ }
+    ensures { λ r. ⌜ Sieves (onlyRead (now (reads .entry)) (now (writes .entry))) r ⌝ }
+{
+    let n = reads.len();
+    let mut list = [0u8; 8];
+    let mut k: usize = 0;
+    let mut i: usize = 0;
+    while i < n {
+        let r = reads[i];
+        if !holds(writes, r) {
+            list[k] = r;
+            k += 1;
+        }
+        i += 1;
+    }
+    Sieved {
+        n: k as u8,
+        list: list,
+    }
+}
+
+// An entry made from lent lists, as it is asked for: with the reduced lists, and no serial yet.
+pub fn made(tenant: u8, awaited: u8, reads: &[u8], writes: &[u8]) -> Entry
     requires { ⌜ length (now reads) ≤ 8 ⌝ }
     requires { ⌜ length (now writes) ≤ 8 ⌝ }
-    ensures { λ r. ⌜ Stands (requested tenant serial awaited (now (reads .entry)) (now (writes .entry))) r ⌝ }
+    ensures { λ r. ⌜ Stands (reduced (requested tenant 0 awaited (now (reads .entry)) (now (writes .entry)))) r ⌝ }
 {
-    let nr = reads.len() as u8;
+    let only = only_read(reads, writes);
     let nw = writes.len() as u8;
-    let rs = kept(reads);
+    let rs = only.list;
     let ws = kept(writes);
     Entry {
-        serial: serial,
+        serial: 0,
         tenant: tenant,
         mode: Mode::Blocked,
         awaited: awaited,
         due: awaited,
-        nr: nr,
+        nr: only.n,
         nw: nw,
         reads: rs,
         writes: ws,
     }
+}
+
+// The entry with its serial.
+pub fn numbered(e: Entry, serial: u16) -> Entry
+    requires { ⌜ Tidy e ⌝ }
+    ensures { λ r. ⌜ Stands (withSerial (request e) serial) r ⌝ }
+{
+    let was = e.mode;
+    let reads = e.reads;
+    let writes = e.writes;
+    Entry {
+        serial: serial,
+        tenant: e.tenant,
+        mode: was,
+        awaited: e.awaited,
+        due: e.due,
+        nr: e.nr,
+        nw: e.nw,
+        reads: reads,
+        writes: writes,
+    }
+}
+
+// Whether the first n records of a list are strictly rising.
+fn part_rises(list: [u8; 8], n: u8) -> bool
+    ensures { λ r. ⌜ r ≡ rising (take n list) ⌝ }
+{
+    let k = few(n);
+    rises(&list[..k])
+}
+
+// Whether both lists of an entry are strictly rising.
+pub fn lists_rise(e: Entry) -> bool
+    ensures { λ r. ⌜ r ≡ (rising (request e .reads) && rising (request e .writes)) ⌝ }
+{
+    let reads = e.reads;
+    let writes = e.writes;
+    if part_rises(reads, e.nr) {
+        return part_rises(writes, e.nw);
+    }
+    false
 }
 
 pub fn is_free(mode: Mode) -> bool

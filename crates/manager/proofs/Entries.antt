@@ -4,7 +4,7 @@ use mathlib.Core.Path.{_≡_, refl, sym, ap, subst, _∙_}
 use mathlib.Core.List.{List, [], _∷_, _++_, map}
 use native.Mathlib.Omega.{arith}
 use lib.ListN.{length, getD, take, set}
-use Rattle.rules.specs.Records.{member, WellFormed}
+use Rattle.rules.specs.Records.{member, Stored}
 use Rattle.rules.specs.Request.{Request, nobody, promoted, delivered}
 use Rattle.rules.specs.Table.{withQueue}
 use Rattle.rules.specs.Calls.{withoutEntry, withEntry, named}
@@ -53,13 +53,13 @@ queue-becomes {x} {y} {q} {l} {said} ms h w r = record {
 
 module _ {s : State} (t : Tied s) where
   -- an entry joins the back
-  pub joins-becomes : {x y : List ℕ} {q : Queue} {said : Said} (ms : List Meter) (e : Request) → WellFormed (e .reads) (e .writes) → Raised (s .cx) (e .writes) x → Raised (s .cs) (e .reads) y → Holds (view s .queue ++ e ∷ []) q → Becomes (record { meters = map meterView ms; queue = view s .queue ++ e ∷ [] }) (record { cx = x; cs = y; meters = ms; count = q .count; entries = q .entries; said = said })
+  pub joins-becomes : {x y : List ℕ} {q : Queue} {said : Said} (ms : List Meter) (e : Request) → Stored (e .reads) (e .writes) → Raised (s .cx) (e .writes) x → Raised (s .cs) (e .reads) y → Holds (view s .queue ++ e ∷ []) q → Becomes (record { meters = map meterView ms; queue = view s .queue ++ e ∷ [] }) (record { cx = x; cs = y; meters = ms; count = q .count; entries = q .entries; said = said })
   joins-becomes ms e f x y h =
       queue-becomes ms h (counts-raised (λ a. a .writes) e (f .writes-rise) (t .writers) x) (counts-raised (λ a. a .reads) e (f .reads-rise) (t .readers) y)
 
   module _ (i : ℕ) (there : i < length (view s .queue)) where
     -- an entry leaves
-    module _ (f : WellFormed (getD (view s .queue) i nobody .reads) (getD (view s .queue) i nobody .writes)) where
+    module _ (f : Stored (getD (view s .queue) i nobody .reads) (getD (view s .queue) i nobody .writes)) where
       pub writes-stocked : Stocked (s .cx) (getD (view s .queue) i nobody .writes)
       writes-stocked = counts-stocked (λ a. a .writes) i there (f .writes-rise) (t .writers)
 

@@ -9,14 +9,14 @@ use lib.ListN.{length, getD, take, set}
 use lib.Seq.{set-set}
 use Rattle.rules.specs.declared.Answer.{Answer}
 use Rattle.rules.specs.Lists.{if_then_else_, some, every}
-use Rattle.rules.specs.Records.{member, WellFormed}
-use Rattle.rules.specs.Request.{Request, conflictsAny, promoted, admitted}
+use Rattle.rules.specs.Records.{member, Stored}
+use Rattle.rules.specs.Request.{Request, reduced, conflictsAny, promoted, admitted}
 use Rattle.rules.specs.Table.{isTenant, meterOf, withMeter, spent, numbered, burn}
 use Rattle.rules.specs.Prices.{clause9, admission}
 use Rattle.rules.specs.Refusals.{firstOf, beginRows}
 use Rattle.rules.specs.Counters.{cx, cs, figure2, alone}
 use Rattle.rules.specs.Calls.{asked, beginOf, joined, named}
-use Rattle.rules.specs.Sound.{Each}
+use Rattle.rules.specs.Sound.{Each, Names}
 use Rattle.rules.proofs.Tests.{if-either}
 use Rattle.rules.proofs.Admission.{Admissible}
 use Rattle.rules.proofs.Refusals.{begin-passes}
@@ -24,7 +24,7 @@ use Rattle.rules.proofs.Room.{queue-room, sound-count}
 use Rattle.rules.proofs.Keeps.{sound-burn}
 use Rattle.rules.proofs.Sound.{begin-sound}
 use Rattle.rules.proofs.Lists.{some-in, every-in}
-use Rattle.rules.proofs.Order.{each-append}
+use Rattle.rules.proofs.Reduced.{reduced-stored}
 use Rattle.rules.proofs.Meters.{Sixteen, meter-own}
 use Rattle.rules.proofs.Mapped.{map-set}
 use Rattle.rules.proofs.Verdicts.{figure2-conflicts}
@@ -71,8 +71,8 @@ each-byte zero xs below = Each.none
 each-byte (suc n) [] below = Each.none
 each-byte (suc n) (x ∷ xs) below = let small : x ≤ 255 = omega (arith, below 0) in Each.also small (each-byte n xs (λ k. below (suc k)))
 
-pub records-small : (e : Entry) → Lists e → Each (λ r. r ≤ 255) (request e .reads ++ request e .writes)
-records-small e b = each-append (each-byte (e .nr) (e .reads) (b .reads .below)) (each-byte (e .nw) (e .writes) (b .writes .below))
+pub records-small : (e : Entry) → Lists e → Names (λ r. r ≤ 255) (request e)
+records-small e b = record { reads = each-byte (e .nr) (e .reads) (b .reads .below); writes = each-byte (e .nw) (e .writes) (b .writes .below) }
 
 -- the lists stay as they were asked
 pub admitted-reads : (q : List Request) (e : Request) → admitted q e .reads ≡ e .reads
@@ -88,7 +88,7 @@ unfolding admitted promoted
 admitted-tenant q e = if-either (λ (a : Request). a .tenant ≡ e .tenant) (conflictsAny q e) refl refl
 
 -- figure 2 by the counters with its own count: it is the entry that the law book admits
-pub admitted-stands : (q : List Request) {x y : List ℕ} {e joins : Entry} → Counts (λ a. a .writes) x (q ++ request e ∷ []) → Counts (λ a. a .reads) y (q ++ request e ∷ []) → Lists e → WellFormed (request e .reads) (request e .writes) → Stands (if figure2 (at x) (at y) (request e) then request e else promoted (request e)) joins → Stands (admitted q (request e)) joins
+pub admitted-stands : (q : List Request) {x y : List ℕ} {e joins : Entry} → Counts (λ a. a .writes) x (q ++ request e ∷ []) → Counts (λ a. a .reads) y (q ++ request e ∷ []) → Lists e → Stored (request e .reads) (request e .writes) → Stands (if figure2 (at x) (at y) (request e) then request e else promoted (request e)) joins → Stands (admitted q (request e)) joins
 unfolding admitted
 admitted-stands q {x} {y} {e} {joins} w r b f h =
     let told : figure2 (at x) (at y) (request e) ≡ conflictsAny q (request e) = figure2-told w r e b ∙ figure2-conflicts q (request e) f in
@@ -110,14 +110,21 @@ joined-meters s six e who own =
 
 -- ---- the request has joined, and its tenant has paid
 module _ {s : State} (h : Sound s) (k : Slotted s) (who awaited : ℕ) (reads writes : List ℕ) (none : firstOf (beginRows clause9 (view s) (asked (view s) who awaited reads writes)) ≡ 0) where
-  abbrev wanted : Request
-  wanted = asked (view s) who awaited reads writes
+  -- the request as it is asked for, and as it joins
+  abbrev asks : Request
+  asks = asked (view s) who awaited reads writes
 
-  pub allowed : Admissible clause9 (view s) wanted
-  allowed = begin-passes clause9 (view s) wanted none
+  abbrev wanted : Request
+  wanted = reduced asks
+
+  pub allowed : Admissible clause9 (view s) asks
+  allowed = begin-passes clause9 (view s) asks none
+
+  lists : Stored (wanted .reads) (wanted .writes)
+  lists = reduced-stored reads writes (allowed .lists)
 
   pub room : s .count < 64
-  room = omega (arith, queue-room (h .table) wanted (allowed .tenant) (allowed .place), requests-length (k .slots))
+  room = omega (arith, queue-room (h .table) asks (allowed .tenant) (allowed .place), requests-length (k .slots))
 
   -- no counter is above 64
   pub under : (of : Request → List ℕ) {c : List ℕ} → Counts of c (view s .queue) → Under 65 c
@@ -126,11 +133,11 @@ module _ {s : State} (h : Sound s) (k : Slotted s) (who awaited : ℕ) (reads wr
       counts-under of 65 few n
 
   module _ {e joins : Entry} {x y : List ℕ} (is : request e ≡ wanted) (l : Lists e) (w : Raised (s .cx) (request e .writes) x) (r : Raised (s .cs) (request e .reads) y) (stands : Stands (if figure2 (at x) (at y) (request e) then request e else promoted (request e)) joins) where
-    fit : WellFormed (request e .reads) (request e .writes)
-    fit = subst (λ (a : Request). WellFormed (a .reads) (a .writes)) (sym is) (allowed .lists)
+    fit : Stored (request e .reads) (request e .writes)
+    fit = subst (λ (a : Request). Stored (a .reads) (a .writes)) (sym is) lists
 
-    small : Each (λ n. n ≤ 255) (reads ++ writes)
-    small = subst (λ (a : Request). Each (λ n. n ≤ 255) (a .reads ++ a .writes)) is (records-small e l)
+    small : Names (λ n. n ≤ 255) wanted
+    small = subst (Names (λ n. n ≤ 255)) is (records-small e l)
 
     -- the entry that joins is the one that the law book admits
     own : Stands (admitted (view s .queue) wanted) joins
@@ -146,7 +153,7 @@ module _ {s : State} (h : Sound s) (k : Slotted s) (who awaited : ℕ) (reads wr
         let a = admitted (t .queue) wanted in
         let reads-are = admitted-reads (t .queue) wanted in
         let writes-are = admitted-writes (t .queue) wanted in
-        let formed : WellFormed (a .reads) (a .writes) = rw (reads-are, writes-are) (allowed .lists) in
+        let formed : Stored (a .reads) (a .writes) = rw (reads-are, writes-are) lists in
         let cx-raised : Raised (s .cx) (a .writes) x = rw writes-are (rw (ap (λ (b : Request). b .writes) is) at w) in
         let cs-raised : Raised (s .cs) (a .reads) y = rw reads-are (rw (ap (λ (b : Request). b .reads) is) at r) in
         let holds = rw (own .is) at (pushed-holds (k .slots) joins room (own .tidy)) in

@@ -1,17 +1,16 @@
 -- The refusals that are told from numbers are the law book's.
-use Prim.Native.Nat.{ℕ, _+_, _*_, _-_, _≤_, _<_}
+use Prim.Native.Nat.{ℕ, _+_, _-_, _≤_, _<_}
 use mathlib.Core.Path.{_≡_, refl, sym, ap, _∙_}
-use mathlib.Core.Bool.{Bool, true, false, _&&_, _||_, not}
+use mathlib.Core.Bool.{Bool, true, false, _||_, not}
 use mathlib.Core.List.{List, [], _∷_, _++_}
 use lib.Dec.{eqb, ltb, leb}
 use native.Mathlib.Omega.{arith}
 use lib.ListN.{length, getD}
 use borrow.Author.Tests.{ltb-false}
 use Rattle.rules.specs.Lists.{if_then_else_}
-use Rattle.rules.specs.Records.{rising, meets}
-use Rattle.rules.specs.Request.{nobody, size, isFree, isBlocked}
+use Rattle.rules.specs.Request.{Request, nobody, requested, reduced, size, isFree, isBlocked}
 use Rattle.rules.specs.Table.{Meter as LawMeter, Table, newMeter, isTenant, meterOf, placesOf, mostFuel}
-use Rattle.rules.specs.Prices.{clause9, admission}
+use Rattle.rules.specs.Prices.{clause9}
 use Rattle.rules.specs.Refusals.{Row, firstOf, standsAt, isAbsent, entryOf, beginRows, finishRows, recheckRows, scanRows, deliverRows, grantRows}
 use Rattle.rules.specs.Calls.{asked}
 use Rattle.rules.proofs.Tests.{neither}
@@ -25,7 +24,7 @@ use Rattle.queue.specs.Queue.{Queue, requests}
 use Rattle.queue.proofs.Views.{Slots, requests-length, request-at}
 use Rattle.manager.specs.declared.State.{State}
 use Rattle.manager.specs.State.{view, Sound}
-use Rattle.manager.specs.Rows.{formRows, meansRows, beginBy, finishBy, recheckBy, scanBy, deliverBy, grantBy}
+use Rattle.manager.specs.Rows.{earlyRows, lateRows, beginBy, finishBy, recheckBy, scanBy, deliverBy, grantBy}
 use Rattle.manager.proofs.Views.{meter-view}
 
 -- ---- what the numbers are
@@ -68,53 +67,50 @@ first-some [] b n = absurd (n refl)
 first-some (row ∷ a) b n = step-some (row .when) (row .number) a b n (first-some a b)
 
 -- ---- Begin
--- what is asked for passes each of its rows
-pub record Passes (awaited : ℕ) (reads writes : List ℕ) : Type 0 where
-  pub few : (ltb 8 (length reads) || ltb 8 (length writes)) ≡ false
-  pub rise : not (rising reads && rising writes) ≡ false
-  pub apart : meets reads writes ≡ false
-  pub answers : ltb 15 awaited ≡ false
+-- what is asked for passes each of its first rows
+record Passes (tenant : Bool) (fuel : ℕ) (reads writes : List ℕ) : Type 0 where
+  one : not tenant ≡ false
+  wet : eqb fuel 0 ≡ false
+  few : (ltb 8 (length reads) || ltb 8 (length writes)) ≡ false
 
-form-passes : (awaited : ℕ) (reads writes : List ℕ) → firstOf (formRows awaited reads writes) ≡ 0 → Passes awaited reads writes
-unfolding formRows
-form-passes awaited reads writes z =
-    let p = pass _ 3 _ refl z in
-    let q = pass _ 4 _ refl (p .1) in
-    let r = pass _ 5 _ refl (q .1) in
-    record { few = p .0; rise = q .0; apart = r .0; answers = pass _ 6 _ refl (r .1) .0 }
+early-passes : (tenant : Bool) (fuel : ℕ) (reads writes : List ℕ) → firstOf (earlyRows tenant fuel reads writes) ≡ 0 → Passes tenant fuel reads writes
+unfolding earlyRows
+early-passes tenant fuel reads writes z =
+    let p = pass _ 1 _ refl z in
+    let q = pass _ 2 _ refl (p .1) in
+    record { one = p .0; wet = q .0; few = pass _ 3 _ refl (q .1) .0 }
 
-form-go : (awaited : ℕ) (reads writes : List ℕ) (b : List Row) → Passes awaited reads writes → firstOf (formRows awaited reads writes ++ b) ≡ firstOf b
-unfolding formRows firstOf
-form-go awaited reads writes b p = simp (p .few, p .rise, p .apart, p .answers)
-
-pub form-short : (awaited : ℕ) (reads writes : List ℕ) → firstOf (formRows awaited reads writes) ≡ 0 → (length reads ≤ 8) × (length writes ≤ 8)
-form-short awaited reads writes z =
-    let p = neither (ltb 8 (length reads)) (ltb 8 (length writes)) (form-passes awaited reads writes z .few) in
+pub early-short : (tenant : Bool) (fuel : ℕ) (reads writes : List ℕ) → firstOf (earlyRows tenant fuel reads writes) ≡ 0 → (length reads ≤ 8) × (length writes ≤ 8)
+early-short tenant fuel reads writes z =
+    let p = neither (ltb 8 (length reads)) (ltb 8 (length writes)) (early-passes tenant fuel reads writes z .few) in
     (ltb-false 8 (length reads) (p .0), ltb-false 8 (length writes) (p .1))
 
--- past the first two rows the form decides, or else the means
-module _ (fuel serials : ℕ) (full : Bool) (awaited : ℕ) (reads writes : List ℕ) (wet : eqb fuel 0 ≡ false) where
-  abbrev means : List Row
-  means = meansRows fuel serials full (2 + 2 * (length reads + length writes))
+-- the first rows decide, or else the others
+module _ (fuel serials : ℕ) (full : Bool) (asks : Request) where
+  abbrev early : List Row
+  early = earlyRows (isTenant (asks .tenant)) fuel (asks .reads) (asks .writes)
 
-  pub begin-form : (firstOf (formRows awaited reads writes) ≡ 0 → ⊥) → firstOf (beginBy true fuel serials full awaited reads writes) ≡ firstOf (formRows awaited reads writes)
-  unfolding beginBy firstOf
-  begin-form some = simp wet (first-some (formRows awaited reads writes) means some)
+  pub begin-early : (firstOf early ≡ 0 → ⊥) → firstOf (beginBy fuel serials full asks) ≡ firstOf early
+  begin-early some = first-some early (lateRows fuel serials full (reduced asks)) some
 
-  pub begin-means : firstOf (formRows awaited reads writes) ≡ 0 → firstOf (beginBy true fuel serials full awaited reads writes) ≡ firstOf means
-  unfolding beginBy firstOf
-  begin-means z = simp wet (form-go awaited reads writes means (form-passes awaited reads writes z))
+  pub begin-late : firstOf early ≡ 0 → firstOf (beginBy fuel serials full asks) ≡ firstOf (lateRows fuel serials full (reduced asks))
+  unfolding earlyRows firstOf
+  begin-late z =
+      let p = early-passes (isTenant (asks .tenant)) fuel (asks .reads) (asks .writes) z in
+      simp (p .one, p .wet, p .few)
 
-price-of : (t : Table) (who awaited : ℕ) (reads writes : List ℕ) → admission clause9 (asked t who awaited reads writes) ≡ 2 + 2 * (length reads + length writes)
-unfolding size
-price-of t who awaited reads writes = admission-price (asked t who awaited reads writes)
+pub begin-rows : (t : Table) (who awaited : ℕ) (reads writes : List ℕ) (fuel serials : ℕ) (full : Bool) → (isTenant who ≡ true → (fuel ≡ meterOf t who .fuel) × (serials ≡ meterOf t who .serials) × (full ≡ leb (meterOf t who .share) (placesOf (t .queue) who))) → firstOf (beginBy fuel serials full (requested who 0 awaited reads writes)) ≡ firstOf (beginRows clause9 t (asked t who awaited reads writes))
+unfolding beginRows earlyRows lateRows firstOf size
+begin-rows t who awaited reads writes fuel serials full f = go (isTenant who) refl
+  where
+    e : Request
+    e = asked t who awaited reads writes
 
-pub begin-rows : (t : Table) (who awaited : ℕ) (reads writes : List ℕ) (fuel serials : ℕ) (tenant full : Bool) → tenant ≡ isTenant who → (isTenant who ≡ true → (fuel ≡ meterOf t who .fuel) × (serials ≡ meterOf t who .serials) × (full ≡ leb (meterOf t who .share) (placesOf (t .queue) who))) → firstOf (beginBy tenant fuel serials full awaited reads writes) ≡ firstOf (beginRows clause9 t (asked t who awaited reads writes))
-unfolding beginBy beginRows formRows meansRows firstOf
-begin-rows t who awaited reads writes fuel serials false full e f = simp (sym e)
-begin-rows t who awaited reads writes fuel serials true full e f =
-    let own = f (sym e) in
-    simp (sym e, own .0, own .1, own .2, price-of t who awaited reads writes)
+    go : (b : Bool) → isTenant who ≡ b → firstOf (beginBy fuel serials full (requested who 0 awaited reads writes)) ≡ firstOf (beginRows clause9 t e)
+    go true one =
+        let own = f one in
+        simp (one, own .0, own .1, own .2, admission-price (reduced e))
+    go false none = simp none
 
 -- ---- the other calls
 pub finish-rows : (t : Table) (who serial fuel : ℕ) (tenant absent free : Bool) → tenant ≡ isTenant who → (isTenant who ≡ true → fuel ≡ meterOf t who .fuel) → absent ≡ isAbsent who serial (t .queue) → (absent ≡ false → free ≡ isFree (entryOf who serial (t .queue) .mode)) → firstOf (finishBy tenant fuel absent free) ≡ firstOf (finishRows t who serial)

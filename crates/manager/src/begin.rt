@@ -1,10 +1,9 @@
 // Begin: a request asks for all its locks at once. Its price is paid now, and that of its release with it.
 ghost use mathlib.Core.Path.{_≡_};
-ghost use Prim.Native.Nat.{_+_, _*_, _≤_};
+ghost use Prim.Native.Nat.{_+_, _*_};
 ghost use lib.Dec.{leb};
-ghost use lib.ListN.{length};
 ghost use Rattle.rules.specs.Lists.{if_then_else_};
-ghost use Rattle.rules.specs.Request.{promoted};
+ghost use Rattle.rules.specs.Request.{requested, size, promoted};
 ghost use Rattle.rules.specs.Prices.{pricesOf};
 ghost use Rattle.rules.specs.Refusals.{firstOf};
 ghost use Rattle.rules.specs.Counters.{figure2};
@@ -12,7 +11,7 @@ ghost use Rattle.rules.specs.Calls.{beginOf};
 ghost use Rattle.entry.specs.Entry.{request, Tidy, Stands};
 ghost use Rattle.counters.specs.Counters.{at};
 ghost use Rattle.manager.specs.State.{view, Sound, Did};
-ghost use Rattle.manager.specs.Rows.{formRows, meansRows, beginBy};
+ghost use Rattle.manager.specs.Rows.{earlyRows, lateRows, Judges};
 use super::meters;
 use super::refusal;
 use super::tenants;
@@ -22,72 +21,79 @@ use entry::Entry;
 use meter::Meter;
 
 // The price of a request: 1 + n now and 1 + n for the release.
-fn price(reads: &[u8], writes: &[u8]) -> u32
-    requires { ⌜ length (now reads) ≤ 8 ⌝ }
-    requires { ⌜ length (now writes) ≤ 8 ⌝ }
-    ensures { λ r. ⌜ r ≡ 2 + 2 * (length (now (reads .entry)) + length (now (writes .entry))) ⌝ }
+fn price(e: Entry) -> u32
+    ensures { λ r. ⌜ r ≡ 2 + 2 * size (request e) ⌝ }
 {
-    let n = reads.len() + writes.len();
+    let n = entry::size(e);
     2 + 2 * (n as u32)
 }
 
-// Refusals 3 to 6, which what is asked for tells.
-fn form(awaited: u8, reads: &[u8], writes: &[u8]) -> u8
-    ensures { λ r. ⌜ r ≡ firstOf (formRows awaited (now (reads .entry)) (now (writes .entry))) ⌝ }
+// Refusals 1 to 3, which come before the lists are reduced.
+fn early(tenant: bool, fuel: u32, reads: &[u8], writes: &[u8]) -> u8
+    ensures { λ r. ⌜ r ≡ firstOf (earlyRows tenant fuel (now (reads .entry)) (now (writes .entry))) ⌝ }
 {
+    if !tenant {
+        return 1;
+    }
+    if fuel == 0 {
+        return 2;
+    }
     if entry::too_many(reads) {
         return 3;
     }
     if entry::too_many(writes) {
         return 3;
     }
-    if !entry::rises(reads) {
-        return 4;
-    }
-    if !entry::rises(writes) {
-        return 4;
-    }
-    if entry::meet(reads, writes) {
-        return 5;
-    }
-    if 15 < awaited {
-        return 6;
-    }
     0
 }
 
-// Refusals 7 to 9, which the tenant's meter and the places that it holds tell.
-fn means(m: Meter, held: usize, cost: u32) -> u8
-    ensures { λ r. ⌜ r ≡ firstOf (meansRows (m .fuel) (m .serials) (leb (m .share) held) cost) ⌝ }
+// Refusals 4 and 6 to 9, which the reduced lists, the tenant's meter and the places that it holds tell.
+fn late(m: Meter, held: usize, e: Entry) -> u8
+    ensures { λ r. ⌜ r ≡ firstOf (lateRows (m .fuel) (m .serials) (leb (m .share) held) (request e)) ⌝ }
 {
+    if !entry::lists_rise(e) {
+        return 4;
+    }
+    if 15 < e.awaited {
+        return 6;
+    }
     if (m.share as usize) <= held {
         return 7;
     }
     if 65535 <= m.serials {
         return 8;
     }
-    if m.fuel < cost {
+    if m.fuel < price(e) {
         return 9;
     }
     0
 }
 
-// Refusals 1 to 9 in number order.
-fn refusal(tenant: bool, m: Meter, held: usize, awaited: u8, reads: &[u8], writes: &[u8]) -> u8
-    ensures { λ r. ⌜ r ≡ firstOf (beginBy tenant (m .fuel) (m .serials) (leb (m .share) held) awaited (now (reads .entry)) (now (writes .entry))) ⌝ }
+// What refuses a request, 0 if nothing does, and the entry that it asks for, which has no serial yet.
+struct Judged {
+    number: u8,
+    entry: Entry,
+}
+
+// Refusals 1 to 9 in number order, but for 5, which is no longer given.
+fn judge(who: u8, m: Meter, held: usize, awaited: u8, reads: &[u8], writes: &[u8]) -> Judged
+    ensures { λ r. ⌜ Judges (requested who 0 awaited (now (reads .entry)) (now (writes .entry))) (m .fuel) (m .serials) (leb (m .share) held) r ⌝ }
 {
-    if !tenant {
-        return 1;
+    let tenant = tenants::is_tenant(who);
+    let first = early(tenant, m.fuel, reads, writes);
+    if first != 0 {
+        let none = entry::empty();
+        return Judged {
+            number: first,
+            entry: none,
+        };
     }
-    if m.fuel == 0 {
-        return 2;
+    let e = entry::made(who, awaited, reads, writes);
+    let number = late(m, held, e);
+    Judged {
+        number: number,
+        entry: e,
     }
-    let number = form(awaited, reads, writes);
-    if number != 0 {
-        return number;
-    }
-    let cost = price(reads, writes);
-    means(m, held, cost)
 }
 
 // The entry that joins: Blocked where the counters, its own count included, show a clash, and promoted where they do not.
@@ -123,8 +129,8 @@ pub fn begin(s: State, who: u8, awaited: u8, reads: &[u8], writes: &[u8]) -> Sta
         }
         i += 1;
     }
-    let tenant = tenants::is_tenant(who);
-    let number = refusal(tenant, m, held, awaited, reads, writes);
+    let asked = judge(who, m, held, awaited, reads, writes);
+    let number = asked.number;
     if number != 0 {
         let bill = refusal::billed(all, who, number);
         let next = bill.meters;
@@ -133,12 +139,13 @@ pub fn begin(s: State, who: u8, awaited: u8, reads: &[u8], writes: &[u8]) -> Sta
         n.said = said;
         return n;
     }
+    let wanted = asked.entry;
     let given = meter::numbered(m);
-    let cost = price(reads, writes);
+    let cost = price(wanted);
     let paid = meter::charged(given, cost);
     let k = (who - 1) as usize;
     n.meters[k] = paid;
-    let e = entry::made(who, given.serials, awaited, reads, writes);
+    let e = entry::numbered(wanted, given.serials);
     let nr = entry::few(e.nr);
     let nw = entry::few(e.nw);
     let read = e.reads;

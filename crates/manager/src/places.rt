@@ -1,7 +1,7 @@
 // An entry that leaves its place.
 ghost use Prim.Native.Nat.{_<_};
 ghost use lib.ListN.{length, getD};
-ghost use Rattle.rules.specs.Records.{WellFormed};
+ghost use Rattle.rules.specs.Records.{Stored};
 ghost use Rattle.rules.specs.Request.{nobody};
 ghost use Rattle.manager.specs.State.{view, Tied};
 ghost use Rattle.manager.specs.Deeds.{Gone};
@@ -14,7 +14,7 @@ use rules::Answer;
 pub fn released(s: State, at: usize) -> State
     requires { ⌜ Tied s ⌝ }
     requires { ⌜ at < length (view s .queue) ⌝ }
-    requires { ⌜ WellFormed (getD (view s .queue) at nobody .reads) (getD (view s .queue) at nobody .writes) ⌝ }
+    requires { ⌜ Stored (getD (view s .queue) at nobody .reads) (getD (view s .queue) at nobody .writes) ⌝ }
     ensures { λ r. ⌜ Gone s at r ⌝ }
 {
     let mut n = s;

@@ -5,7 +5,7 @@ use mathlib.Core.Bool.{false}
 use native.Mathlib.Omega.{arith}
 use lib.Dec.{ltb}
 use Rattle.rules.specs.declared.Mode.{Mode}
-use Rattle.rules.specs.Request.{size, isBlocked, promoted}
+use Rattle.rules.specs.Request.{reduced, size, isBlocked, promoted}
 use Rattle.rules.specs.Table.{Table}
 use Rattle.rules.specs.Prices.{Prices}
 use Rattle.rules.specs.Refusals.{firstOf, finishRows}
@@ -26,7 +26,7 @@ module _ {p : Prices} (f : Fair p) where
   pub admits : Admits p
   admits t who awaited reads writes j =
       let e = asked t who awaited reads writes in
-      let a : Admissible p t e = record { tenant = j .tenant; lists = j .lists; awaited = j .awaited; place = j .place; serial = j .serial; some-fuel = omega (arith, j .fuel, f .request (size e)); fuel = j .fuel } in
+      let a : Admissible p t e = record { tenant = j .tenant; lists = j .lists; awaited = j .awaited; place = j .place; serial = j .serial; some-fuel = omega (arith, j .fuel, f .request (size (reduced e))); fuel = j .fuel } in
       record { answer = rw (begin-admits a); queue = rw (begin-admits a); burnt = rw (begin-admits a) }
 
   -- "and a Finish of a Free entry succeeds on a dry tank"

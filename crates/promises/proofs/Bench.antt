@@ -11,9 +11,9 @@ use borrow.Author.Tests.{eqb-true, ne-eqb, eq-eqb, lt-ltb, lt-leb}
 use Rattle.rules.specs.declared.Mode.{Mode}
 use Rattle.rules.specs.declared.Mode.the-variants.{Free, Blocked}
 use Rattle.rules.specs.declared.Answer.the-variants.{Ok, Done, Nothing}
-use Rattle.rules.specs.Lists.{if_then_else_, some, every, countIf, total, before}
-use Rattle.rules.specs.Records.{member, rising, risingPast, meets, WellFormed}
-use Rattle.rules.specs.Request.{Request, requested, size, conflict, withMode, promoted, admitted}
+use Rattle.rules.specs.Lists.{if_then_else_, some, every, countIf, keepIf, total, before}
+use Rattle.rules.specs.Records.{member, rising, risingPast, meets, onlyRead, WellFormed}
+use Rattle.rules.specs.Request.{Request, requested, reduced, size, conflict, withMode, promoted, admitted}
 use Rattle.rules.specs.Table.{Meter, Table, meterOf, placesOf, withMeter, fresh, spent, numbered, burn}
 use Rattle.rules.specs.Prices.{clause9, looks, costly, charge, admission}
 use Rattle.rules.specs.Refusals.{firstOf, beginRows, finishRows, recheckRows, scanRows, grantRows, openRows}
@@ -24,21 +24,22 @@ use Rattle.rules.specs.Runs.{Run, runOf, after, step, number}
 use Rattle.rules.specs.Runs.Call.{Scan}
 use Rattle.rules.proofs.Tests.{and-false, if-either, if-cases}
 use Rattle.rules.proofs.Meters.{Sixteen, meter-own, meter-with, sixteen-with}
+use Rattle.rules.proofs.Reduced.{reduced-same}
 use Rattle.rules.proofs.Admission.{Admissible, begin-admits}
 use Rattle.promises.specs.Bench.{TenExamples, Tenant, Spare, SpareTwo, own, entry, idle, twelveLines, afterLine, begins, reader, readerThen, left}
 
 -- ---- the twelve lines, computed
 line-7 : (r : Run) → let q = afterLine 7 r .queue in (cx q 10 ≡ 2) × (cx q 11 ≡ 1) × (cx q 12 ≡ 2)
-unfolding twelveLines runOf after openOf grantOf beginOf firstOf openRows grantRows beginRows fresh total countIf some member rising risingPast meets size admitted promoted conflict charge costly
+unfolding twelveLines runOf after openOf grantOf beginOf firstOf openRows grantRows beginRows fresh total countIf keepIf some member onlyRead rising risingPast meets size admitted promoted conflict charge costly
 line-7 r = (refl, refl, refl)
 
 line-8 : (r : Run) → (cx (afterLine 8 r .queue) 10 ≡ 1) × (step clause9 (afterLine 9 r) (Scan 2) .burnt ≡ 1 + 2 + 3)
-unfolding twelveLines runOf after openOf grantOf beginOf finishOf recheckOf scanOf firstOf openRows grantRows beginRows finishRows recheckRows scanRows fresh total countIf some every member rising risingPast meets size admitted promoted conflict charge costly before alone scanWalk looks
+unfolding twelveLines runOf after openOf grantOf beginOf finishOf recheckOf scanOf firstOf openRows grantRows beginRows finishRows recheckRows scanRows fresh total countIf keepIf some every member onlyRead rising risingPast meets size admitted promoted conflict charge costly before alone scanWalk looks
 line-8 r = (refl, refl)
 
 -- ---- requests at an empty queue
 -- where the queue is empty, a tenant with a place, a serial and the fuel to spare is admitted
-idle-admits : {meters : List Meter} {who units : ℕ} {reads writes : List ℕ} → Spare meters who 1 units → WellFormed reads writes → admission clause9 (asked (idle meters) who 0 reads writes) ≤ units → Admissible clause9 (idle meters) (asked (idle meters) who 0 reads writes)
+idle-admits : {meters : List Meter} {who units : ℕ} {reads writes : List ℕ} → Spare meters who 1 units → WellFormed reads writes → admission clause9 (reduced (asked (idle meters) who 0 reads writes)) ≤ units → Admissible clause9 (idle meters) (asked (idle meters) who 0 reads writes)
 unfolding countIf
 idle-admits s f h = record {
   tenant = s .tenant .valid;
@@ -51,28 +52,28 @@ idle-admits s f h = record {
 }
 
 no-lists : WellFormed [] []
-unfolding rising meets some
-no-lists = record { few-reads = omega arith; few-writes = omega arith; reads-rise = refl; writes-rise = refl; apart = refl }
+unfolding rising onlyRead keepIf
+no-lists = record { few-reads = omega arith; few-writes = omega arith; reads-rise = refl; writes-rise = refl }
 
 one-read : (r : ℕ) → WellFormed (r ∷ []) []
-unfolding rising risingPast meets member some
-one-read r = record { few-reads = omega arith; few-writes = omega arith; reads-rise = refl; writes-rise = refl; apart = refl }
+unfolding rising risingPast onlyRead keepIf member some
+one-read r = record { few-reads = omega arith; few-writes = omega arith; reads-rise = refl; writes-rise = refl }
 
 one-write : (r : ℕ) → WellFormed [] (r ∷ [])
-unfolding rising risingPast meets member some
-one-write r = record { few-reads = omega arith; few-writes = omega arith; reads-rise = refl; writes-rise = refl; apart = refl }
+unfolding rising risingPast onlyRead keepIf
+one-write r = record { few-reads = omega arith; few-writes = omega arith; reads-rise = refl; writes-rise = refl }
 
 -- what it then comes to: Free, and alone in the queue
 record Alone (meters : List Meter) (who : ℕ) (reads writes : List ℕ) (o : Outcome) : Type 0 where
   answer : o .answer ≡ named (entry meters who 1 Free reads writes)
-  queue : o .table .queue ≡ entry meters who 1 Free reads writes ∷ []
+  queue : o .table .queue ≡ entry meters who 1 Free (onlyRead reads writes) writes ∷ []
 
 free-first : {meters : List Meter} {who : ℕ} {reads writes : List ℕ} → Admissible clause9 (idle meters) (asked (idle meters) who 0 reads writes) → Alone meters who reads writes (begins (idle meters) who reads writes)
 unfolding admitted promoted some
 free-first a = record { answer = rw (begin-admits a); queue = rw (begin-admits a) }
 
 empty-lists : (meters : List Meter) (who : ℕ) → Spare meters who 1 2 → let e = entry meters who 1 Free [] [] in let o = begins (idle meters) who [] [] in (o .answer ≡ named e) × (o .table .queue ≡ e ∷ []) × (o .burnt ≡ 2)
-unfolding size
+unfolding size onlyRead keepIf
 empty-lists meters who s =
     let a = idle-admits s no-lists (omega arith) in
     let o = free-first a in
@@ -105,7 +106,7 @@ module _ {meters : List Meter} {a b : ℕ} (two : SpareTwo meters a b) where
   }
 
   reader-admits : Admissible clause9 (idle meters) (asked (idle meters) a 0 (5 ∷ []) [])
-  unfolding size
+  unfolding size onlyRead keepIf member some
   reader-admits = idle-admits first-spare (one-read 5) (omega arith)
 
   -- the table with the reader in its queue
@@ -113,7 +114,7 @@ module _ {meters : List Meter} {a b : ℕ} (two : SpareTwo meters a b) where
   held = burn a 4 (joined (idle meters) (entry meters a 1 Free (5 ∷ []) []))
 
   first-table : reader meters a .table ≡ held
-  unfolding size admitted promoted some
+  unfolding size onlyRead keepIf member admitted promoted some
   first-table = rw (begin-admits reader-admits)
 
   held-less : Less (meterOf (idle meters) b) (meterOf held b) (own a b)
@@ -135,7 +136,7 @@ module _ {meters : List Meter} {a b : ℕ} (two : SpareTwo meters a b) where
   unfolding countIf
   held-places = if-cases (λ (n : ℕ). n + 0 + 1 ≡ own a b) (eqb a b) (λ e. rw e refl) (λ e. rw e refl)
 
-  second-admits : {reads writes : List ℕ} → WellFormed reads writes → admission clause9 (asked held b 0 reads writes) ≡ 4 → Admissible clause9 held (asked held b 0 reads writes)
+  second-admits : {reads writes : List ℕ} → WellFormed reads writes → admission clause9 (reduced (asked held b 0 reads writes)) ≡ 4 → Admissible clause9 held (asked held b 0 reads writes)
   second-admits f price =
       let l = held-less in
       record {
@@ -153,14 +154,14 @@ module _ {meters : List Meter} {a b : ℕ} (two : SpareTwo meters a b) where
   second-is mode reads writes = ap (λ (n : ℕ). withMode (requested b n 0 reads writes) mode) (held-less .serials)
 
   two-readers : let first = entry meters a 1 Free (5 ∷ []) [] in let second = entry meters b (own a b) Free (5 ∷ []) [] in let o = readerThen meters a b (5 ∷ []) [] in (reader meters a .answer ≡ named first) × (o .answer ≡ named second) × (o .table .queue ≡ first ∷ second ∷ []) × (cs (o .table .queue) 5 ≡ 2)
-  unfolding size admitted promoted some conflict meets member countIf
+  unfolding size onlyRead keepIf admitted promoted some conflict meets member countIf
   two-readers =
       let a2 = second-admits (one-read 5) refl in
       let is = second-is Free (5 ∷ []) [] in
       (free-first reader-admits .answer, rw (first-table, begin-admits a2) (ap named is), rw (first-table, begin-admits a2) (ap (λ (e : Request). entry meters a 1 Free (5 ∷ []) [] ∷ e ∷ []) is), rw (first-table, begin-admits a2))
 
   then-writer : let first = entry meters a 1 Free (5 ∷ []) [] in let second = entry meters b (own a b) Blocked [] (5 ∷ []) in let o = readerThen meters a b [] (5 ∷ []) in (o .answer ≡ named second) × (o .table .queue ≡ first ∷ second ∷ [])
-  unfolding size admitted promoted some conflict meets member
+  unfolding size onlyRead keepIf admitted promoted some conflict meets member
   then-writer =
       let a2 = second-admits (one-write 5) refl in
       let is = second-is Blocked [] (5 ∷ []) in
@@ -170,11 +171,18 @@ module _ {meters : List Meter} {a b : ℕ} (two : SpareTwo meters a b) where
 wet : (units : ℕ) → 0 < units → eqb units 0 ≡ false
 wet units h = ne-eqb units 0 (λ (z : units ≡ 0). omega arith)
 
-bad-lists : (meters : List Meter) (who : ℕ) → Spare meters who 1 1 → (number (begins (idle meters) who [] (7 ∷ 7 ∷ [])) ≡ 4) × (number (begins (idle meters) who (7 ∷ []) (7 ∷ [])) ≡ 5)
-unfolding beginOf beginRows firstOf rising risingPast meets some member
-bad-lists meters who s =
-    let fuelled = wet (meterOf (idle meters) who .fuel) (s .fuel) in
-    (simp (s .tenant .valid, fuelled), simp (s .tenant .valid, fuelled))
+not-rising : (meters : List Meter) (who : ℕ) → Spare meters who 1 1 → number (begins (idle meters) who [] (7 ∷ 7 ∷ [])) ≡ 4
+unfolding beginOf beginRows firstOf rising risingPast onlyRead keepIf
+not-rising meters who s = simp (s .tenant .valid, wet (meterOf (idle meters) who .fuel) (s .fuel))
+
+-- a record in both lists is written only
+read-and-written : (meters : List Meter) (who : ℕ) → Spare meters who 1 4 → let e = entry meters who 1 Free [] (7 ∷ []) in let o = begins (idle meters) who (7 ∷ []) (7 ∷ []) in (o .answer ≡ named e) × (o .table .queue ≡ e ∷ []) × (o .burnt ≡ 4) × (cx (o .table .queue) 7 ≡ 1) × (cs (o .table .queue) 7 ≡ 0)
+unfolding size onlyRead keepIf member some rising risingPast countIf
+read-and-written meters who s =
+    let lists : WellFormed (7 ∷ []) (7 ∷ []) = record { few-reads = omega arith; few-writes = omega arith; reads-rise = refl; writes-rise = refl } in
+    let a = idle-admits s lists (omega arith) in
+    let o = free-first a in
+    (o .answer, o .queue, rw (begin-admits a), rw (o .queue), rw (o .queue))
 
 module _ (meters : List Meter) (who r : ℕ) (s : Spare meters who 1 0) where
   abbrev writer : Request
@@ -182,7 +190,7 @@ module _ (meters : List Meter) (who r : ℕ) (s : Spare meters who 1 0) where
 
   -- fuel 3, where the price is 4
   too-dear : meterOf (idle meters) who .fuel ≡ 3 → firstOf (beginRows clause9 (idle meters) writer) ≡ 9
-  unfolding beginRows firstOf rising risingPast meets some member size countIf
+  unfolding beginRows firstOf rising risingPast onlyRead keepIf size countIf
   too-dear f =
       let m = meterOf (idle meters) who in
       let place : leb (m .share) 0 ≡ false = lt-leb (m .share) 0 (s .places) in
@@ -202,7 +210,7 @@ module _ (meters : List Meter) (who r : ℕ) (s : Spare meters who 1 0) where
       (rw (too-dear f), ap (λ (t : Table). meterOf t who .fuel) (three-table f) ∙ rw (own, f))
 
   four-admits : meterOf (idle meters) who .fuel ≡ 4 → Admissible clause9 (idle meters) writer
-  unfolding size
+  unfolding size onlyRead keepIf
   four-admits f =
       let enough : Spare meters who 1 4 = record { tenant = s .tenant; places = s .places; serials = s .serials; fuel = omega arith } in
       idle-admits enough (one-write r) (omega arith)
@@ -212,7 +220,7 @@ module _ (meters : List Meter) (who r : ℕ) (s : Spare meters who 1 0) where
   run = burn who 4 (joined (idle meters) (entry meters who 1 Free [] (r ∷ [])))
 
   four-table : meterOf (idle meters) who .fuel ≡ 4 → begins (idle meters) who [] (r ∷ []) .table ≡ run
-  unfolding size admitted promoted some
+  unfolding size onlyRead keepIf admitted promoted some
   four-table f = rw (begin-admits (four-admits f))
 
   run-meter : meterOf run who ≡ spent (numbered (meterOf (idle meters) who)) 4
@@ -266,11 +274,15 @@ unfolding meets member some
 no-writes [] = refl
 no-writes (r ∷ reads) = no-writes reads
 
+all-read : (reads : List ℕ) → onlyRead reads [] ≡ reads
+all-read reads = reduced-same reads [] (no-writes reads)
+
 module _ (meters : List Meter) (who : ℕ) (reads : List ℕ) (s : Spare meters who 1 18) where
   eight : length reads ≡ 8 → rising reads ≡ true → begins (idle meters) who reads [] .answer ≡ named (entry meters who 1 Free reads [])
   unfolding size rising
   eight n rise =
-      let lists : WellFormed reads [] = record { few-reads = omega arith; few-writes = omega arith; reads-rise = rise; writes-rise = refl; apart = no-writes reads } in
+      let lists : WellFormed reads [] = record { few-reads = omega arith; few-writes = omega arith; reads-rise = rw (all-read reads) rise; writes-rise = refl } in
+      let count : length (onlyRead reads []) ≡ 8 = rw (all-read reads) n in
       free-first (idle-admits s lists (omega arith)) .answer
 
   nine : length reads ≡ 9 → number (begins (idle meters) who reads []) ≡ 3
@@ -292,7 +304,7 @@ ten-examples = record {
   e3 = λ meters a b. two-readers;
   e4 = λ meters a b. then-writer;
   e5 = empty-lists;
-  e6 = bad-lists;
+  e6 = λ meters who. (not-rising meters who, read-and-written meters who);
   e7 = λ meters who r s. (three meters who r s, four meters who r s);
   e8 = λ meters who v f. (scans-empty meters who v f, scans-short meters who v f);
   e9 = λ meters who reads s. (eight meters who reads s, nine meters who reads s);

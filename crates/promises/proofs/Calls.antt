@@ -12,7 +12,7 @@ use lib.ListN.{length, getD, set}
 use borrow.Author.Tests.{eqb-true, ne-eqb, leb-false}
 use Rattle.rules.specs.declared.Answer.{Answer}
 use Rattle.rules.specs.Lists.{if_then_else_, countIf, total, before}
-use Rattle.rules.specs.Request.{Request, nobody, size, conflictsAny, isNamed, promoted, admitted, delivered}
+use Rattle.rules.specs.Request.{Request, nobody, reduced, size, conflictsAny, isNamed, promoted, admitted, delivered}
 use Rattle.rules.specs.Table.{Table, isTenant, placesOf, fresh}
 use Rattle.rules.specs.Prices.{Prices, admission, searching, charge}
 use Rattle.rules.specs.Refusals.{firstOf, standsAt, entryOf, beginRows, finishRows, recheckRows, scanRows, deliverRows, grantRows, openRows}
@@ -146,7 +146,7 @@ module _ {p : Prices} (f : Fair p) (t : Table) (who : ℕ) (h : isTenant who ≡
   unfolding beginOf finishOf recheckOf scanOf grantOf pickOf
   paid (Begin w awaited reads writes) shut =
       let e = asked t w awaited reads writes in
-      tenant-paid w _ _ _ (firstOf (beginRows p t e)) (begin-verdict p t e) (λ z. begin-does e)
+      tenant-paid w _ _ _ (firstOf (beginRows p t e)) (begin-verdict p t e) (λ z. begin-does (reduced e))
   paid (Finish w serial) shut =
       tenant-paid w _ _ _ (firstOf (finishRows t w serial)) (finish-verdict t w serial) (finish-does w serial)
   paid (Recheck w serial) shut =

@@ -8,7 +8,7 @@ use lib.Dec.{eqb}
 use lib.ListN.{getD, set}
 use Rattle.rules.specs.declared.Answer.the-variants.{Refused}
 use Rattle.rules.specs.Lists.{if_then_else_}
-use Rattle.rules.specs.Request.{Request, nobody, conflictsAny, promoted, admitted, delivered}
+use Rattle.rules.specs.Request.{Request, nobody, reduced, conflictsAny, promoted, admitted, delivered}
 use Rattle.rules.specs.Table.{Meter, Table, noMeter, meterOf, withMeter, withQueue, numbered, granted, spent, burn}
 use Rattle.rules.specs.Prices.{Prices}
 use Rattle.rules.specs.Refusals.{firstOf, standsAt, entryOf, beginRows, finishRows, recheckRows, scanRows, deliverRows, grantRows}
@@ -37,10 +37,10 @@ module _ (p : Prices) (t : Table) where
       e = asked t who awaited reads writes
 
       entry : Request
-      entry = admitted (t .queue) e
+      entry = admitted (t .queue) (reduced e)
 
       go : (b : Bool) → Change t (answered (record { reads = reads; writes = writes }) (if b then named entry else Refused (firstOf (beginRows p t e)))) ((if b then joined t entry else t) .queue)
-      go true = if-either (λ (x : Request). Change t (answered (record { reads = reads; writes = writes }) (named x)) (t .queue ++ x ∷ [])) (conflictsAny (t .queue) e) (Change.joins e refl) (Change.joins (promoted e) refl)
+      go true = if-either (λ (x : Request). Change t (answered (record { reads = reads; writes = writes }) (named x)) (t .queue ++ x ∷ [])) (conflictsAny (t .queue) (reduced e)) (Change.joins (reduced e) refl) (Change.joins (promoted (reduced e)) refl)
       go false = Change.same
 
   found-change : (end : End) → Change t [] (found-table t end .queue)
@@ -108,7 +108,7 @@ module _ (p : Prices) (t : Table) where
   unfolding beginOf finishOf recheckOf scanOf grantOf pickOf deliverOf
   grown (Begin w awaited reads writes) shut =
       let e = asked t w awaited reads writes in
-      grown-burnt w _ (maybe-grown (eqb (firstOf (beginRows p t e)) 0) (joined-grown (admitted (t .queue) e)))
+      grown-burnt w _ (maybe-grown (eqb (firstOf (beginRows p t e)) 0) (joined-grown (admitted (t .queue) (reduced e))))
   grown (Finish w serial) shut = grown-burnt w _ (maybe-grown (eqb (firstOf (finishRows t w serial)) 0) (grown-queue _))
   grown (Recheck w serial) shut =
       let e = entryOf w serial (t .queue) in

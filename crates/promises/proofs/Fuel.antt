@@ -11,7 +11,7 @@ use borrow.Author.Tests.{eqb-true, ltb-false}
 use Rattle.rules.specs.declared.Answer.{Answer}
 use Rattle.rules.specs.declared.Answer.the-variants.{Ok, Refused}
 use Rattle.rules.specs.Lists.{if_then_else_, total}
-use Rattle.rules.specs.Request.{Request, size, admitted}
+use Rattle.rules.specs.Request.{Request, reduced, size, admitted}
 use Rattle.rules.specs.Table.{Meter, Table, isTenant, noMeter, meterOf, withQueue, withMeter, spent, granted, numbered, newMeter, fresh}
 use Rattle.rules.specs.Prices.{Prices, admission, searching}
 use Rattle.rules.specs.Refusals.{firstOf, entryOf, beginRows, finishRows, recheckRows, scanRows, deliverRows, grantRows, openRows}
@@ -203,7 +203,7 @@ module _ {p : Prices} (f : Fair p) {t : Table} (s : SoundAny t) (who : ℕ) (h :
   unfolding beginOf finishOf recheckOf scanOf pickOf deliverOf beginRows finishRows recheckRows scanRows
   moves (Begin w awaited reads writes) shut =
       let e = asked t w awaited reads writes in
-      tenant-moves s p w (firstOf (beginRows p t e)) (admission p e) Ok (joined-kept s (admitted (t .queue) e)) (stranger w _) (λ z. begin-passes p t e z .fuel) who _ h (none-given (Begin w awaited reads writes) refl)
+      tenant-moves s p w (firstOf (beginRows p t e)) (admission p (reduced e)) Ok (joined-kept s (admitted (t .queue) (reduced e))) (stranger w _) (λ z. begin-passes p t e z .fuel) who _ h (none-given (Begin w awaited reads writes) refl)
   moves (Finish w serial) shut =
       tenant-moves s p w (firstOf (finishRows t w serial)) (p .finish) Ok (queue-kept s _) (stranger w _) (λ z. omega (arith, f .finish)) who _ h (none-given (Finish w serial) refl)
   moves (Recheck w serial) shut =

@@ -8,8 +8,8 @@ use native.Mathlib.Omega.{arith}
 use lib.Dec.{eqb}
 use lib.ListN.{length, getD}
 use borrow.Author.Tests.{eqb-true}
-use Rattle.rules.specs.Lists.{every, some, total, countIf, before}
-use Rattle.rules.specs.Records.{member, meets, rising, risingPast}
+use Rattle.rules.specs.Lists.{every, some, total, countIf, before, keepIf}
+use Rattle.rules.specs.Records.{member, meets, onlyRead, rising, risingPast}
 use Rattle.rules.specs.Request.{Request, nobody, isFree, conflict, size, promoted, admitted, delivered}
 use Rattle.rules.specs.Table.{Table, fresh}
 use Rattle.rules.specs.Prices.{Prices, charge, costly}
@@ -56,7 +56,7 @@ stays-on p (c ∷ calls) r is d =
     stays-on p calls (after p r c) (stays-at p (r .table) is c (k .0)) (k .1)
 
 pub hangs : Hangs
-unfolding runOf after openOf openRows firstOf fresh grantOf grantRows beginOf beginRows finishOf finishRows pickOf deliverOf deliverRows admitted promoted delivered conflict meets member some rising risingPast total countIf before size charge costly
+unfolding runOf after openOf openRows firstOf fresh grantOf grantRows beginOf beginRows finishOf finishRows pickOf deliverOf deliverRows admitted promoted delivered conflict meets member some onlyRead rising risingPast total countIf keepIf before size charge costly
 hangs = record {
   begins = λ who serial awaited reads writes. refl;
   reaches = refl;

@@ -8,6 +8,7 @@ pub mod Admitted
 pub mod Numbers
 pub mod Changes
 pub mod Names
+pub mod Sales
 pub mod Drains
 pub mod Hung
 pub mod Promises

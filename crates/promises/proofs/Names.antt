@@ -33,8 +33,8 @@ record Was (t u : Table) : Type 0 where
   sound : SoundAny u
   fewer : Grown u t
 
-record Book (t : Table) (steps : List Step) : Type 0 where
-  sound : SoundAny t
+pub record Book (t : Table) (steps : List Step) : Type 0 where
+  pub sound : SoundAny t
   rise : InOrder Rise (admissions steps)
   given : Each (λ k. k .serial ≤ givenBy t (k .tenant)) (admissions steps)
   past : Each (Was t) (map (λ s. s .met) steps)
@@ -44,7 +44,7 @@ unfolding admissions
 opening shares = record { sound = open-sound shares; rise = InOrder.none; given = Each.none; past = Each.none }
 
 -- ---- what a change of the queue keeps
-each-end : {A : Type 0} {P : A → Type 0} (xs : List A) {e : A} → Each P (xs ++ e ∷ []) → P e
+pub each-end : {A : Type 0} {P : A → Type 0} (xs : List A) {e : A} → Each P (xs ++ e ∷ []) → P e
 each-end [] (Each.also p h) = p
 each-end (x ∷ xs) (Each.also p h) = each-end xs h
 
@@ -78,7 +78,7 @@ module _ (p : Prices) where
         past = Each.also (record { sound = s; fewer = g }) (each-map (λ w (was : Was t w). record { sound = was .sound; fewer = grown-twice (was .fewer) g }) (b .past));
       }
 
-  book : (shares : List ℕ) (calls : List Call) → let r = reached p shares calls in Book (r .table) (r .steps)
+  pub book : (shares : List ℕ) (calls : List Call) → let r = reached p shares calls in Book (r .table) (r .steps)
   book = any-run p Book opening keeps
 
 -- ---- the names differ
@@ -121,7 +121,9 @@ admissions-append (s ∷ later) steps =
     ap (λ (l : List Claim). l ++ admittedBy (s .call) (s .outcome .answer)) (admissions-append later steps) ∙ append-assoc (admissions steps) (admissions later) (admittedBy (s .call) (s .outcome .answer))
 
 admitted-is : (s : Step) (c : Claim) → AdmittedAt s c → admittedBy (s .call) (s .outcome .answer) ≡ c ∷ []
-admitted-is s c a = ap (λ (k : Call). admittedBy k (s .outcome .answer)) (a .call) ∙ ap (answered (record { reads = c .reads; writes = c .writes })) (a .answer)
+admitted-is s c a =
+    ap (λ (k : Call). admittedBy k (s .outcome .answer)) (a .call) ∙ ap (answered (record { reads = a .reads; writes = c .writes })) (a .answer) ∙
+    ap (λ (reads : List ℕ). record { tenant = c .tenant; serial = c .serial; reads = reads; writes = c .writes } ∷ []) (sym (a .reduced))
 
 -- where the two stand in the list of admissions
 pair-at : {a b : Step} {x y : Claim} {steps : List Step} (m : MadeBefore a b steps) → AdmittedAt a x → AdmittedAt b y → admissions steps ≡ (((admissions (m .earlier) ++ x ∷ []) ++ admissions (m .between)) ++ y ∷ []) ++ admissions (m .later)
@@ -145,13 +147,13 @@ two-names p shares calls a b x y m ax by = pair-of m ax by (own-names p shares c
 
 -- ---- a name that has left
 -- the name's tenant and serial
-name-of : (who serial : ℕ) (e : Request) → isNamed who serial e ≡ true → (e .tenant ≡ who) × (e .serial ≡ serial)
+pub name-of : (who serial : ℕ) (e : Request) → isNamed who serial e ≡ true → (e .tenant ≡ who) × (e .serial ≡ serial)
 name-of who serial e h =
     let k = both (eqb (e .tenant) who) (eqb (e .serial) serial) h in
     (eqb-true (e .tenant) who (k .0), eqb-true (e .serial) serial (k .1))
 
 -- a new entry has not a name that was given
-fresh-name : (t : Table) (who serial : ℕ) (e : Request) → e .serial ≡ givenBy t (e .tenant) + 1 → serial ≤ givenBy t who → isNamed who serial e ≡ false
+pub fresh-name : (t : Table) (who serial : ℕ) (e : Request) → e .serial ≡ givenBy t (e .tenant) + 1 → serial ≤ givenBy t who → isNamed who serial e ≡ false
 fresh-name t who serial e new le = go (isNamed who serial e) refl
   where
     go : (b : Bool) → isNamed who serial e ≡ b → isNamed who serial e ≡ false
@@ -162,7 +164,7 @@ fresh-name t who serial e new le = go (isNamed who serial e) refl
     go false h = h
 
 -- an element is put that passes where the old one did
-each-changed : {P : Request → Type 0} {q : List Request} → Each P q → (at : ℕ) (e : Request) → (P (getD q at nobody) → P e) → Each P (set q at e)
+pub each-changed : {P : Request → Type 0} {q : List Request} → Each P q → (at : ℕ) (e : Request) → (P (getD q at nobody) → P e) → Each P (set q at e)
 each-changed Each.none at e f = Each.none
 each-changed (Each.also p h) zero e f = Each.also (f p) h
 each-changed (Each.also p h) (suc at) e f = Each.also p (each-changed h at e f)

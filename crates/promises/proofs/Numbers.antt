@@ -1,12 +1,13 @@
 -- Document 01's prices in numbers: what each call burns that is not refused, and what the table charges a refused one.
 use Prim.Native.Nat.{ℕ}
 use mathlib.Core.Path.{_≡_, refl, sym, ap, _∙_}
-use mathlib.Core.Bool.{Bool, true, false, true≢false}
+use mathlib.Core.Bool.{Bool, true, false, not, true≢false}
 use native.Mathlib.Omega.{arith}
 use lib.Dec.{eqb}
 use Rattle.rules.specs.declared.Answer.{Answer}
 use Rattle.rules.specs.declared.Answer.the-variants.{Refused}
 use Rattle.rules.specs.Lists.{if_then_else_}
+use Rattle.rules.specs.Records.{member, onlyRead}
 use Rattle.rules.specs.Request.{size}
 use Rattle.rules.specs.Table.{Table}
 use Rattle.rules.specs.Prices.{clause9, looks, searching}
@@ -16,6 +17,7 @@ use Rattle.rules.specs.Said.{said}
 use Rattle.rules.specs.Runs.{Call, step, roleOf, callerOf, isOpen, number}
 use Rattle.rules.specs.Runs.Call.{Begin, Finish, Recheck, Scan, Open, Grant, Pick, Deliver}
 use Rattle.rules.proofs.Tests.{if-cases}
+use Rattle.rules.proofs.Reduced.{keep-count}
 use Rattle.rules.proofs.Costly.{costly-range}
 use Rattle.promises.specs.Fuel.{tableCharge, Charged9, cost9, Costs9, Prices9}
 use Rattle.promises.proofs.Refusals.{refuses9}
@@ -33,9 +35,9 @@ by-refusal t c shut passes same =
     if-cases (λ (n : ℕ). o .burnt ≡ n) (eqb (number o) 0) passes (λ h. refuses9 t c shut h .burnt ∙ same)
 
 costs : (t : Table) (c : Call) → Costs9 t c (step clause9 t c)
-unfolding cost9 beginOf finishOf recheckOf scanOf openOf grantOf pickOf deliverOf looks size
+unfolding onlyRead cost9 beginOf finishOf recheckOf scanOf openOf grantOf pickOf deliverOf looks size
 costs t (Begin who awaited reads writes) =
-    by-refusal t (Begin who awaited reads writes) refl (λ h. unrefused t who (firstOf (beginRows clause9 t (asked t who awaited reads writes))) _ _ h ∙ omega arith) refl
+    by-refusal t (Begin who awaited reads writes) refl (λ h. unrefused t who (firstOf (beginRows clause9 t (asked t who awaited reads writes))) _ _ h ∙ omega (arith, keep-count (λ (r : ℕ). not (member r writes)) reads)) refl
 costs t (Finish who serial) =
     by-refusal t (Finish who serial) refl (λ h. unrefused t who (firstOf (finishRows t who serial)) _ _ h) refl
 costs t (Recheck who serial) =

@@ -7,7 +7,7 @@ use Rattle.rules.specs.Calls.{search}
 use Rattle.promises.specs.Fuel.{Fair}
 use Rattle.promises.specs.Searches.{SearchPrice9, SearchMost9}
 use Rattle.promises.specs.Promises.{Promises, AtClause9}
-use Rattle.promises.proofs.Refusals.{refuses, refuses9, refuses-open}
+use Rattle.promises.proofs.Refusals.{refuses, refuses9, refuses-open, never-five}
 use Rattle.promises.proofs.Runs.{all-sound}
 use Rattle.promises.proofs.Fuel.{burns-price, burns-prices, own-call, other-call, balance}
 use Rattle.promises.proofs.Calls.{not-dry}
@@ -16,6 +16,7 @@ use Rattle.promises.proofs.Admitted.{admits, finishes, picks}
 use Rattle.promises.proofs.Numbers.{prices9, charged9}
 use Rattle.promises.proofs.Names.{own-names, two-names, never-back}
 use Rattle.promises.proofs.Drains.{never-hangs, drains, always-drains}
+use Rattle.promises.proofs.Sales.{sellers-conflict, second-waits}
 
 pub promises : {p : Prices} → Fair p → Promises p
 promises {p} f = record {
@@ -31,6 +32,7 @@ promises {p} f = record {
   finishes = finishes f;
   refuses = refuses p;
   refuses-open = refuses-open;
+  never-five = never-five p;
   search-promotes = search-promotes f;
   search-ends = search-ends f;
   search-nothing = search-nothing p;
@@ -44,6 +46,8 @@ promises {p} f = record {
   never-hangs = never-hangs p;
   drains = drains f;
   always-drains = always-drains f;
+  sellers-conflict = sellers-conflict;
+  second-waits = second-waits p;
 }
 
 pub clause9-fair : Fair clause9

@@ -26,7 +26,7 @@ use Rattle.rules.proofs.Tests.{both, if-either, if-cases}
 use Rattle.rules.proofs.Keeps.{burn-none}
 use Rattle.rules.proofs.Costly.{charge-low, charge-unit, charge-one}
 use Rattle.promises.specs.Fuel.{fuelOf, column}
-use Rattle.promises.specs.Refused.{SameButFuel, Refusal, Refuses, Refuses9, RefusedOpen, RefusesOpen}
+use Rattle.promises.specs.Refused.{SameButFuel, Refusal, Refuses, Refuses9, RefusedOpen, RefusesOpen, NeverFive}
 
 -- ---- what the rows of a tenant's call give
 pub data Verdict (who fuel : ℕ) : ℕ → Type 0 where
@@ -216,3 +216,37 @@ refuses-open shares = go (not (eqb (length shares) 16) || ltb 64 (total (λ n. n
     go : (b : Bool) → let o = hostCall (fresh (replicate 16 0)) (if b then 14 else 0) (fresh shares) Ok in eqb (number o) 0 ≡ false → RefusedOpen o
     go true h = record { refused = refl; table = refl; burnt = refl }
     go false h = absurd (true≢false h)
+
+-- ---- 5 is no longer given
+-- a number that no row has is not given
+rows-without : (n : ℕ) (rows : List Row) → eqb 0 n ≡ false → every (λ row. not (eqb (row .number) n)) rows ≡ true → eqb (firstOf rows) n ≡ false
+unfolding firstOf every
+rows-without n [] own all = own
+rows-without n (row ∷ rows) own all =
+    let split = both (not (eqb (row .number) n)) (every (λ (row : Row). not (eqb (row .number) n)) rows) all in
+    if-either (λ (k : ℕ). eqb k n ≡ false) (row .when) (not-true (eqb (row .number) n) (split .0)) (rows-without n rows own (split .1))
+
+-- a call answers with its rows' number, or with an answer of its own
+abbrev No5 : Answer → Type 0
+No5 answer = eqb (said answer .number) 5 ≡ false
+
+by-rows-5 : (rows : List Row) (answer : Answer) → every (λ row. not (eqb (row .number) 5)) rows ≡ true → No5 answer → No5 (if eqb (firstOf rows) 0 then answer else Refused (firstOf rows))
+by-rows-5 rows answer all own = if-either No5 (eqb (firstOf rows) 0) own (rows-without 5 rows refl all)
+
+found-5 : (q : List Request) (end : End) → No5 (found-answer q end)
+found-5 q (found at) = refl
+found-5 q nothing = refl
+found-5 q short = refl
+
+pub never-five : (p : Prices) → NeverFive p
+unfolding beginOf finishOf recheckOf scanOf openOf grantOf pickOf deliverOf beginRows finishRows recheckRows scanRows openRows grantRows deliverRows every
+never-five p t (Begin who awaited reads writes) = by-rows-5 _ _ refl refl
+never-five p t (Finish who serial) = by-rows-5 _ _ refl refl
+never-five p t (Recheck who serial) =
+    let e = entryOf who serial (t .queue) in
+    by-rows-5 _ _ refl (if-either No5 (alone (cx (t .queue)) (cs (t .queue)) e) refl refl)
+never-five p t (Scan who) = by-rows-5 _ _ refl (found-5 (t .queue) (search p t who .end))
+never-five p t (Open shares) = by-rows-5 _ _ refl refl
+never-five p t (Grant who amount) = by-rows-5 _ _ refl refl
+never-five p t Pick = found-5 (t .queue) (pickEnd (t .queue))
+never-five p t (Deliver who serial) = by-rows-5 _ _ refl refl

@@ -122,11 +122,18 @@ pub record TenExamples : Type 0 where
       (o .answer ≡ named e) ×
       (o .table .queue ≡ e ∷ []) ×
       (o .burnt ≡ 2)
-  -- E6 Writes 7, 7: refusal 4. Reads 7 and writes 7: refusal 5.
+  -- E6 Writes 7, 7: refusal 4. Reads 7 and writes 7, by document 02, item 4: "Free at price 4, given the fuel"; it "raises Cx and
+  -- not Cs".
   pub e6 : (meters : List Meter) (who : ℕ) →
-      Spare meters who 1 1 →
-      (number (begins (idle meters) who [] (7 ∷ 7 ∷ [])) ≡ 4) ×
-      (number (begins (idle meters) who (7 ∷ []) (7 ∷ [])) ≡ 5)
+      (Spare meters who 1 1 → number (begins (idle meters) who [] (7 ∷ 7 ∷ [])) ≡ 4) ×
+      (Spare meters who 1 4 →
+      let e = entry meters who 1 Free [] (7 ∷ []) in
+      let o = begins (idle meters) who (7 ∷ []) (7 ∷ []) in
+      (o .answer ≡ named e) ×
+      (o .table .queue ≡ e ∷ []) ×
+      (o .burnt ≡ 4) ×
+      (cx (o .table .queue) 7 ≡ 1) ×
+      (cs (o .table .queue) 7 ≡ 0))
   -- E7 Fuel 3, one write: refusal 9, fuel 2. Fuel 4: admitted, fuel 0, and Finish succeeds.
   pub e7 : (meters : List Meter) (who r : ℕ) →
       Spare meters who 1 0 →

@@ -1,11 +1,11 @@
 -- Demand 3, the fuel of a tenant over any run of calls, whatever the other tenants and the host do.
 use Prim.Native.Nat.{ℕ, _+_, _*_, _≤_}
 use mathlib.Core.Path.{_≡_}
-use mathlib.Core.Bool.{true, false, _&&_}
+use mathlib.Core.Bool.{true, false, _&&_, not}
 use mathlib.Core.List.{List}
 use lib.Dec.{eqb, leb}
 use lib.ListN.{length}
-use Rattle.rules.specs.Lists.{if_then_else_, total}
+use Rattle.rules.specs.Lists.{if_then_else_, countIf, total}
 use Rattle.rules.specs.Records.{member}
 use Rattle.rules.specs.Request.{Request}
 use Rattle.rules.specs.Table.{Table, isTenant, meterOf}
@@ -121,9 +121,13 @@ tableCharge unit walked search n = if eqb n 9 then walked else column unit n
 abbrev pub recordsIn : Request → ℕ
 recordsIn e = length (e .reads) + length (e .writes)
 
+-- of a request as it is asked for: a record in both lists is "counted once in n"
+abbrev pub recordsOnce : List ℕ → List ℕ → ℕ
+recordsOnce reads writes = countIf (λ r. not (member r writes)) reads + length writes
+
 -- what a call costs that is not refused
 unfoldable pub cost9 : Table → Call → ℕ
-cost9 t (Begin who awaited reads writes) = 2 + 2 * (length reads + length writes)
+cost9 t (Begin who awaited reads writes) = 2 + 2 * recordsOnce reads writes
 cost9 t (Finish who serial) = 0
 cost9 t (Recheck who serial) = 1 + recordsIn (entryOf who serial (t .queue))
 cost9 t (Scan who) = 1 + total (λ e. 1 + recordsIn e) (searchOf clause9 t who .looked)

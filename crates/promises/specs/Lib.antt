@@ -4,6 +4,7 @@ pub mod Refused
 pub mod Searches
 pub mod Places
 pub mod Names
+pub mod Sales
 pub mod Drains
 pub mod Hung
 pub mod Promises

@@ -8,6 +8,7 @@ use Rattle.rules.specs.declared.Mode.{Mode}
 use Rattle.rules.specs.declared.Answer.{Answer}
 use Rattle.rules.specs.declared.Answer.the-variants.{Ok, Done, Still, Nothing, Refused, Named}
 use Rattle.rules.specs.Lists.{if_then_else_, some, every}
+use Rattle.rules.specs.Records.{onlyRead}
 use Rattle.rules.specs.Request.{Request, isNamed}
 use Rattle.rules.specs.Table.{Table}
 use Rattle.rules.specs.CallTable.{isRequest}
@@ -17,7 +18,7 @@ use Rattle.rules.specs.Runs.{Call, Begin, Step, Run, Lists, listsOf, roleOf, is
 use Rattle.promises.specs.Fuel.{reached}
 
 -- ---- whom a run admitted
--- a request as it was admitted: what its entry keeps as long as it is queued, its name and its lists
+-- a request as it was admitted: what its entry keeps as long as it is queued, its name and its reduced lists
 pub record Claim : Type 0 where
   pub tenant : ℕ
   pub serial : ℕ
@@ -34,7 +35,12 @@ answered l Done = []
 answered l Still = []
 answered l Nothing = []
 answered l (Refused number) = []
-answered l (Named mode tenant serial) = record { tenant = tenant; serial = serial; reads = l .reads; writes = l .writes } ∷ []
+answered l (Named mode tenant serial) = record {
+  tenant = tenant;
+  serial = serial;
+  reads = onlyRead (l .reads) (l .writes);
+  writes = l .writes;
+} ∷ []
 
 abbrev pub admittedBy : Call → Answer → List Claim
 admittedBy c answer = if isRequest (roleOf c) then answered (listsOf c) answer else []
@@ -56,11 +62,13 @@ OwnNames p =
     (shares : List ℕ) (calls : List Call) →
     NamesDiffer (reached p shares calls .steps)
 
--- the same told of two Begins of a run
+-- the same told of two Begins of a run, whose reads are as given
 pub record AdmittedAt (s : Step) (c : Claim) : Type 0 where
   pub awaited : ℕ
   pub mode : Mode
-  pub call : s .call ≡ Begin (c .tenant) awaited (c .reads) (c .writes)
+  pub reads : List ℕ
+  pub reduced : c .reads ≡ onlyRead reads (c .writes)
+  pub call : s .call ≡ Begin (c .tenant) awaited reads (c .writes)
   pub answer : s .outcome .answer ≡ Named mode (c .tenant) (c .serial)
 
 -- step a was made before step b (the latest stands first)

@@ -5,26 +5,27 @@ use mathlib.Core.Bool.{true, false}
 use mathlib.Core.List.{List, [], _∷_, _++_}
 use Rattle.rules.specs.declared.Answer.the-variants.{Done}
 use Rattle.rules.specs.Records.{WellFormed}
-use Rattle.rules.specs.Request.{Request, isFree, isBlocked, promoted, admitted}
+use Rattle.rules.specs.Request.{Request, reduced, isFree, isBlocked, promoted, admitted}
 use Rattle.rules.specs.Table.{Table, isTenant, meterOf, placesOf, withQueue, mostSerials}
 use Rattle.rules.specs.Prices.{Prices, admission}
 use Rattle.rules.specs.Refusals.{standsAt, isAbsent, entryOf}
 use Rattle.rules.specs.Calls.{Outcome, named, withoutEntry, asked, beginOf, finishOf, pickOf}
 use Rattle.promises.specs.Fuel.{fuelOf}
 
--- ---- 5 "A well-formed request from a tenant below its share, with serials left and fuel for the price, is admitted"
+-- ---- 5 "A well-formed request from a tenant below its share, with serials left and fuel for the price, is admitted": e is the
+-- request as it is asked for, with its lists as given, which may share records. It joins with the reduced ones.
 pub record MayJoin (p : Prices) (t : Table) (e : Request) : Type 0 where
   pub tenant : isTenant (e .tenant) ≡ true
   pub lists : WellFormed (e .reads) (e .writes)
   pub awaited : e .awaited ≤ 15
   pub place : placesOf (t .queue) (e .tenant) < meterOf t (e .tenant) .share
   pub serial : meterOf t (e .tenant) .serials < mostSerials
-  pub fuel : admission p e ≤ fuelOf t (e .tenant)
+  pub fuel : admission p (reduced e) ≤ fuelOf t (e .tenant)
 
 pub record Joins (p : Prices) (t : Table) (e : Request) (o : Outcome) : Type 0 where
-  pub answer : o .answer ≡ named (admitted (t .queue) e)
-  pub queue : o .table .queue ≡ t .queue ++ admitted (t .queue) e ∷ []
-  pub burnt : o .burnt ≡ admission p e
+  pub answer : o .answer ≡ named (admitted (t .queue) (reduced e))
+  pub queue : o .table .queue ≡ t .queue ++ admitted (t .queue) (reduced e) ∷ []
+  pub burnt : o .burnt ≡ admission p (reduced e)
 
 abbrev pub Admits : Prices → Type 0
 Admits p =

@@ -6,12 +6,13 @@ use Rattle.rules.specs.Prices.{Prices, clause9}
 use Rattle.rules.specs.Sound.{Each, SoundBy}
 use Rattle.rules.specs.Runs.{Call, recordsOf}
 use Rattle.promises.specs.Fuel.{BurnsPrice, BurnsPrices, OwnCall, OtherCall, Balance, NotDry, Charged9, Prices9, reached}
-use Rattle.promises.specs.Refused.{Refuses, Refuses9, RefusesOpen}
+use Rattle.promises.specs.Refused.{Refuses, Refuses9, RefusesOpen, NeverFive}
 use Rattle.promises.specs.Searches.{SearchPromotes, SearchEnds, SearchNothing, SearchNames, SearchCut}
 use Rattle.promises.specs.Searches.{SearchPrice, SearchMost, SearchPrice9, SearchMost9}
 use Rattle.promises.specs.Places.{Admits, Finishes, Picks}
 use Rattle.promises.specs.Names.{OwnNames, TwoNames, NeverBack}
 use Rattle.promises.specs.Drains.{NeverHangs, Drains, AlwaysDrains}
+use Rattle.promises.specs.Sales.{SellersConflict, SecondWaits}
 
 -- 9 the states reached are sound, and name no records but those that the calls named
 abbrev pub AllSound : Prices → Type 1
@@ -39,6 +40,7 @@ pub record Promises (p : Prices) : Type 1 where
   -- 6
   pub refuses : Refuses p
   pub refuses-open : RefusesOpen
+  pub never-five : NeverFive p
   -- 7
   pub search-promotes : SearchPromotes p
   pub search-ends : SearchEnds p
@@ -58,6 +60,9 @@ pub record Promises (p : Prices) : Type 1 where
   -- 12
   pub drains : Drains p
   pub always-drains : AlwaysDrains p
+  -- 13
+  pub sellers-conflict : SellersConflict
+  pub second-waits : SecondWaits p
 
 pub record AtClause9 : Type 1 where
   pub all : Promises clause9

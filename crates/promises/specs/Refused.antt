@@ -45,6 +45,12 @@ Refuses9 =
     eqb (number o) 0 ≡ false →
     Refusal 1 (searching clause9 (search clause9 t (callerOf c) .looked)) t c o
 
+-- document 02, item 4: "5 is no longer given; its number stays unused"
+abbrev pub NeverFive : Prices → Type 0
+NeverFive p =
+    (t : Table) (c : Call) →
+    eqb (number (step p t c)) 5 ≡ false
+
 -- "Refusal 14 hands out a state with every share 0"
 pub record RefusedOpen (o : Outcome) : Type 0 where
   pub refused : number o ≡ 14

@@ -1,5 +1,5 @@
 -- What keeps a table sound: a meter changed, an entry added, taken out or put in another's place.
-use Prim.Native.Nat.{ℕ, _+_, _-_, _≤_, _<_}
+use Prim.Native.Nat.{ℕ, _-_, _≤_, _<_}
 use mathlib.Core.Path.{_≡_, refl, sym, ap, _∙_}
 use mathlib.Core.Bool.{Bool, true, false}
 use mathlib.Core.List.{List, [], _∷_, _++_}
@@ -10,7 +10,7 @@ use lib.Seq.{set-getD}
 use borrow.Author.Tests.{ltb-true, ltb-false, eqb-true}
 use Rattle.rules.specs.declared.Mode.the-variants.{Free, Waiting}
 use Rattle.rules.specs.Lists.{if_then_else_}
-use Rattle.rules.specs.Records.{WellFormed}
+use Rattle.rules.specs.Records.{Stored}
 use Rattle.rules.specs.Request.{Request, nobody, conflict, withMode, promoted}
 use Rattle.rules.specs.Table.{Meter, Table, isTenant, noMeter, meterOf, withMeter, withQueue, placesOf, spent, burn, mostFuel, mostSerials}
 use Rattle.rules.specs.Calls.{withoutEntry, withEntry}
@@ -84,7 +84,7 @@ burn-none who t =
 
 -- ---- one entry
 -- a running entry is fit, whatever its state was: Waiting with an answer due, Free with none
-pub promoted-fit : (given : ℕ → ℕ) (e : Request) → e .awaited ≤ 15 → e .due ≤ e .awaited → isTenant (e .tenant) ≡ true → 1 ≤ e .serial → e .serial ≤ given (e .tenant) → WellFormed (e .reads) (e .writes) → Fit given (promoted e)
+pub promoted-fit : (given : ℕ → ℕ) (e : Request) → e .awaited ≤ 15 → e .due ≤ e .awaited → isTenant (e .tenant) ≡ true → 1 ≤ e .serial → e .serial ≤ given (e .tenant) → Stored (e .reads) (e .writes) → Fit given (promoted e)
 unfolding promoted
 promoted-fit given e awaited due tenant from-one to-given lists = go (ltb 0 (e .due)) refl
   where

@@ -1,6 +1,7 @@
 pub mod Tests
 pub mod Lists
 pub mod Conflict
+pub mod Reduced
 pub mod Verdicts
 pub mod Prices
 pub mod Meters

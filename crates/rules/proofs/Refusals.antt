@@ -7,8 +7,8 @@ use lib.Dec.{eqb, ltb}
 use lib.ListN.{length}
 use borrow.Author.Tests.{eq-eqb, ltb-false, leb-false, eqb-false, eqb-true, not-false}
 use Rattle.rules.specs.Lists.{some, total}
-use Rattle.rules.specs.Records.{member, rising}
-use Rattle.rules.specs.Request.{Request, size, isFree}
+use Rattle.rules.specs.Records.{member, rising, onlyRead}
+use Rattle.rules.specs.Request.{Request, reduced, size, isFree}
 use Rattle.rules.specs.Table.{Table, meterOf, isTenant, placesOf, mostFuel}
 use Rattle.rules.specs.Prices.{Prices, admission, charge, costly}
 use Rattle.rules.specs.Refusals.{Row, _gives_, firstOf, standsAt, isAbsent, entryOf, beginRows, finishRows, recheckRows, scanRows, deliverRows, grantRows, openRows}
@@ -35,21 +35,21 @@ begin-passes p t e z =
     let b = pass _ 2 _ refl (a .1) in
     let c = pass _ 3 _ refl (b .1) in
     let d = pass _ 4 _ refl (c .1) in
-    let f = pass _ 5 _ refl (d .1) in
-    let g = pass _ 6 _ refl (f .1) in
+    let g = pass _ 6 _ refl (d .1) in
     let h = pass _ 7 _ refl (g .1) in
     let i = pass _ 8 _ refl (h .1) in
     let j = pass _ 9 _ refl (i .1) in
     let few = neither (ltb 8 (length (e .reads))) (ltb 8 (length (e .writes))) (c .0) in
-    let rise = both (rising (e .reads)) (rising (e .writes)) (not-false (rising (e .reads) && rising (e .writes)) (d .0)) in
+    let only = onlyRead (e .reads) (e .writes) in
+    let rise = both (rising only) (rising (e .writes)) (not-false (rising only && rising (e .writes)) (d .0)) in
     record {
       tenant = not-false (isTenant (e .tenant)) (a .0);
-      lists = record { few-reads = ltb-false 8 (length (e .reads)) (few .0); few-writes = ltb-false 8 (length (e .writes)) (few .1); reads-rise = rise .0; writes-rise = rise .1; apart = f .0 };
+      lists = record { few-reads = ltb-false 8 (length (e .reads)) (few .0); few-writes = ltb-false 8 (length (e .writes)) (few .1); reads-rise = rise .0; writes-rise = rise .1 };
       awaited = ltb-false 15 (e .awaited) (g .0);
       place = leb-false (m .share) (placesOf (t .queue) (e .tenant)) (h .0);
       serial = leb-false 65535 (m .serials) (i .0);
       some-fuel = above-zero (m .fuel) (eqb-false (m .fuel) 0 (b .0));
-      fuel = ltb-false (m .fuel) (admission p e) (j .0);
+      fuel = ltb-false (m .fuel) (admission p (reduced e)) (j .0);
     }
 
 -- ---- a number that is no tenant is refused with 1, whatever the other rows say

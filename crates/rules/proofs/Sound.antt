@@ -10,7 +10,8 @@ use borrow.Author.Tests.{eqb-true, eqb-false, not-true}
 use Rattle.rules.specs.declared.Mode.{Mode}
 use Rattle.rules.specs.declared.Mode.the-variants.{Free, Waiting, Blocked}
 use Rattle.rules.specs.Lists.{if_then_else_, some, total, countIf}
-use Rattle.rules.specs.Request.{Request, nobody, size, conflict, conflictsAny, isWaiting, isBlocked, withMode, withDue, promoted, admitted, delivered}
+use Rattle.rules.specs.Records.{onlyRead, Stored}
+use Rattle.rules.specs.Request.{Request, nobody, reduced, size, conflict, conflictsAny, isWaiting, isBlocked, withMode, withDue, promoted, admitted, delivered}
 use Rattle.rules.specs.Table.{Meter, Table, isTenant, meterOf, withMeter, numbered, granted, placesOf, burn, fresh, newMeter, mostFuel, mostSerials}
 use Rattle.rules.specs.Prices.{Prices, admission}
 use Rattle.rules.specs.Refusals.{firstOf, standsAt, isAbsent, entryOf, beginRows, finishRows, recheckRows, scanRows, deliverRows, grantRows, openRows}
@@ -22,6 +23,7 @@ use Rattle.rules.specs.Runs.Call.{Begin, Finish, Recheck, Scan, Open, Gr
 use Rattle.rules.specs.Sound.{Each, InOrder, Fit, SoundBy, SoundAny, Names, SerialsRise, ClearOf, givenBy}
 use Rattle.rules.proofs.Tests.{both, neither, if-cases, above-zero}
 use Rattle.rules.proofs.Lists.{some-append}
+use Rattle.rules.proofs.Reduced.{keep-each, reduced-stored}
 use Rattle.rules.proofs.Requests.{delivered-as, conflict-size}
 use Rattle.rules.proofs.Meters.{meter-own}
 use Rattle.rules.proofs.Admission.{Admissible}
@@ -44,9 +46,12 @@ never : {A : Type 0} → false ≡ true → A
 never z = let k : _≡_ {A = ℕ} 0 1 = cc in absurd (omega arith)
 
 -- ---- Begin
-module _ (p : Prices) {ok : ℕ → Type 0} {t : Table} (s : SoundBy ok t) (who awaited : ℕ) (reads writes : List ℕ) (named : Each ok (reads ++ writes)) (a : Admissible p t (asked t who awaited reads writes)) where
+module _ (p : Prices) {ok : ℕ → Type 0} {t : Table} (s : SoundBy ok t) (who awaited : ℕ) (reads writes : List ℕ) (names : Names ok (reduced (asked t who awaited reads writes))) (a : Admissible p t (asked t who awaited reads writes)) where
   abbrev wanted : Request
-  wanted = asked t who awaited reads writes
+  wanted = reduced (asked t who awaited reads writes)
+
+  lists : Stored (wanted .reads) writes
+  lists = reduced-stored reads writes (a .lists)
 
   -- the table once the serial is given
   abbrev given : Table
@@ -65,9 +70,6 @@ module _ (p : Prices) {ok : ℕ → Type 0} {t : Table} (s : SoundBy ok t) (who 
   rises =
       each-map (λ x (f : Fit (givenBy t) x). λ (same : x .tenant ≡ who). let k : x .serial ≤ givenBy t who = rw same at (f .to-given) in omega arith) (s .entries)
 
-  names : Names ok wanted
-  names = let k = each-parts reads named in record { reads = k .0; writes = k .1 }
-
   place : placesOf (t .queue) who < meterOf given who .share
   place = let k : meterOf given who .share ≡ meterOf t who .share = ap (λ (m : Meter). m .share) given-own in omega (arith, a .place)
 
@@ -81,7 +83,7 @@ module _ (p : Prices) {ok : ℕ → Type 0} {t : Table} (s : SoundBy ok t) (who 
     free = never;
     waiting = never;
     blocked = λ z. conflict-size (t .queue) wanted clash;
-    lists = a .lists;
+    lists = lists;
   }
 
   pub begin-sound : SoundBy ok (joined t (admitted (t .queue) wanted))
@@ -90,15 +92,20 @@ module _ (p : Prices) {ok : ℕ → Type 0} {t : Table} (s : SoundBy ok t) (who 
       (λ clash. sound-joined given-sound wanted (blocked-fit clash) names place rises (each-map (λ x f. λ runs. never (sym runs)) (s .entries)))
       (λ clear.
       sound-joined given-sound (promoted wanted)
-      (promoted-fit (givenBy given) wanted (a .awaited) (omega arith) (a .tenant) (omega arith) last-serial (a .lists))
+      (promoted-fit (givenBy given) wanted (a .awaited) (omega arith) (a .tenant) (omega arith) last-serial lists)
       (record { reads = names .reads; writes = names .writes }) place rises (each-map (λ x h. λ runs. h) (each-none (λ x. conflict x wanted) (t .queue) clear)))
+
+-- the reduced lists name none but the records named
+reduced-names : {ok : ℕ → Type 0} (e : Request) → Each ok (e .reads ++ e .writes) → Names ok (reduced e)
+unfolding onlyRead
+reduced-names e named = let k = each-parts (e .reads) named in record { reads = keep-each _ (k .0); writes = k .1 }
 
 pub begin-keeps : (p : Prices) {ok : ℕ → Type 0} {t : Table} → SoundBy ok t → (who awaited : ℕ) (reads writes : List ℕ) → Each ok (reads ++ writes) → SoundBy ok (beginOf p t who awaited reads writes .table)
 unfolding beginOf beginRows
 begin-keeps p {ok} {t} s who awaited reads writes named =
     let e = asked t who awaited reads writes in
-    tenant-sound p s who (firstOf (beginRows p t e)) (admission p e) (joined t (admitted (t .queue) e)) (stranger who _)
-    (λ z. begin-sound p s who awaited reads writes named (begin-passes p t e z))
+    tenant-sound p s who (firstOf (beginRows p t e)) (admission p (reduced e)) (joined t (admitted (t .queue) (reduced e))) (stranger who _)
+    (λ z. begin-sound p s who awaited reads writes (reduced-names e named) (begin-passes p t e z))
 
 -- ---- Finish
 pub finish-keeps : (p : Prices) {ok : ℕ → Type 0} {t : Table} → SoundBy ok t → (who serial : ℕ) → SoundBy ok (finishOf p t who serial .table)

@@ -10,13 +10,14 @@ use lib.ListN.{getD}
 use Rattle.rules.specs.declared.Mode.the-variants.{Free, Waiting, Blocked}
 use Rattle.rules.specs.Lists.{if_then_else_, some, every}
 use Rattle.rules.specs.Records.{member, meets}
-use Rattle.rules.specs.Request.{Request, nobody, requested, conflictsAny, withMode, promoted, admitted}
+use Rattle.rules.specs.Request.{Request, nobody, requested, reduced, conflictsAny, withMode, promoted, admitted}
 use Rattle.rules.specs.Counters.{cx, cs, figure2, alone}
 use Rattle.rules.specs.Calls.{withoutEntry}
 use Rattle.rules.specs.Verdicts.{Figure2Tells, BeginTells, RecheckTells, MapsTell}
 use Rattle.rules.specs.Scan.{Maps, noRecords, mapped, mapsOver, clearBy}
 use Rattle.rules.proofs.Tests.{one, or-assoc, or-false, not-or, above-one, zero-above, one-own, and-comm}
 use Rattle.rules.proofs.Lists.{some-cong, some-in, every-in, every-some, every-and, some-or, count-above, count-last, count-without, apart-at, meets-sym}
+use Rattle.rules.proofs.Reduced.{reduced-clash}
 use Rattle.rules.proofs.Conflict.{writtenIn, readIn, conflict-spread}
 
 -- ---- the verdicts by one comparison of a list at a time
@@ -86,9 +87,11 @@ figure2-conflicts q e f =
 -- and the state that it gives: where nothing conflicts, the rule of a promotion finds all the awaited answers due
 pub begin-tells : BeginTells
 unfolding admitted promoted
-begin-tells q who serial awaited reads writes = go (conflictsAny q (requested who serial awaited reads writes))
+begin-tells q who serial awaited reads writes =
+    let e = requested who serial awaited reads writes in
+    go (conflictsAny q (reduced e)) ∙ ap (λ (b : Bool). if b then Blocked else (if ltb 0 awaited then Waiting else Free)) (reduced-clash q e)
   where
-    go : (b : Bool) → let e = requested who serial awaited reads writes in (if b then e else withMode e (if ltb 0 awaited then Waiting else Free)) .mode ≡ (if b then Blocked else (if ltb 0 awaited then Waiting else Free))
+    go : (b : Bool) → let e = reduced (requested who serial awaited reads writes) in (if b then e else withMode e (if ltb 0 awaited then Waiting else Free)) .mode ≡ (if b then Blocked else (if ltb 0 awaited then Waiting else Free))
     go true = refl
     go false = refl
 

@@ -6,7 +6,7 @@ use lib.ListN.{getD, set, take, drop, replicate}
 use Rattle.rules.specs.declared.Answer.{Answer}
 use Rattle.rules.specs.declared.Answer.the-variants.{Ok, Done, Still, Nothing, Refused, Named}
 use Rattle.rules.specs.Lists.{if_then_else_}
-use Rattle.rules.specs.Request.{Request, nobody, requested, size, promoted, admitted, delivered, isBlocked}
+use Rattle.rules.specs.Request.{Request, nobody, requested, reduced, size, promoted, admitted, delivered, isBlocked}
 use Rattle.rules.specs.Table.{Table, meterOf, withMeter, withQueue, numbered, granted, burn, fresh}
 use Rattle.rules.specs.Prices.{Prices, admission, searching, charge}
 use Rattle.rules.specs.Refusals.{firstOf, standsAt, entryOf, beginRows, finishRows, recheckRows, scanRows, deliverRows, grantRows, openRows}
@@ -61,8 +61,8 @@ joined t e = withQueue (withMeter t (e .tenant) (numbered (meterOf t (e .tenant)
 unfoldable pub beginOf : Prices → Table → ℕ → ℕ → List ℕ → List ℕ → Outcome
 beginOf p t who awaited reads writes =
     let e = asked t who awaited reads writes in
-    let entry = admitted (t .queue) e in
-    tenantCall p t who (firstOf (beginRows p t e)) (admission p e) (joined t entry) (named entry)
+    let entry = admitted (t .queue) (reduced e) in
+    tenantCall p t who (firstOf (beginRows p t e)) (admission p (reduced e)) (joined t entry) (named entry)
 
 -- "A Free entry leaves". "Finish answers done."
 unfoldable pub finishOf : Prices → Table → ℕ → ℕ → Outcome

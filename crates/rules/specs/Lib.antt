@@ -9,6 +9,7 @@ pub mod Counters
 pub mod Scan
 pub mod Calls
 pub mod Verdicts
+pub mod Reduced
 pub mod Said
 pub mod Sound
 pub mod Runs

@@ -25,6 +25,11 @@ module _ {A : Type 0} where
   countIf f [] = 0
   countIf f (x ∷ xs) = (if f x then 1 else 0) + countIf f xs
 
+  -- the elements that pass the test, in their order
+  unfoldable pub keepIf : (A → Bool) → List A → List A
+  keepIf f [] = []
+  keepIf f (x ∷ xs) = if f x then x ∷ keepIf f xs else keepIf f xs
+
   -- the sum of a number that each element has
   unfoldable pub total : (A → ℕ) → List A → ℕ
   total f [] = 0

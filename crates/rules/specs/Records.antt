@@ -1,11 +1,11 @@
 -- Records and lists of records.
 use Prim.Native.Nat.{ℕ, _≤_}
 use mathlib.Core.Path.{_≡_}
-use mathlib.Core.Bool.{Bool, true, false, _&&_}
+use mathlib.Core.Bool.{Bool, true, false, _&&_, not}
 use mathlib.Core.List.{List, [], _∷_}
 use lib.Dec.{eqb, ltb}
 use lib.ListN.{length}
-use Rattle.rules.specs.Lists.{some}
+use Rattle.rules.specs.Lists.{some, keepIf}
 
 -- the record stands in the list
 unfoldable pub member : ℕ → List ℕ → Bool
@@ -25,8 +25,20 @@ rising (x ∷ xs) = risingPast x xs
 unfoldable pub meets : List ℕ → List ℕ → Bool
 meets xs ys = some (λ x. member x ys) xs
 
--- lists that refusals 3 to 5 let pass
+-- The reduced lists of document 02, item 4: "A record in both lists shall count as written only ... and is stored among the
+-- writes alone". The reads are those that are not written, in their order; the writes stay.
+unfoldable pub onlyRead : List ℕ → List ℕ → List ℕ
+onlyRead reads writes = keepIf (λ r. not (member r writes)) reads
+
+-- lists that refusals 3 and 4 let pass: "The limits of 8 apply to the lists as given. All else uses the reduced lists."
 pub record WellFormed (reads writes : List ℕ) : Type 0 where
+  pub few-reads : length reads ≤ 8
+  pub few-writes : length writes ≤ 8
+  pub reads-rise : rising (onlyRead reads writes) ≡ true
+  pub writes-rise : rising writes ≡ true
+
+-- lists as an entry keeps them: document 02, item 1, "lists keep refusals 3 to 5", the last of which item 4 gives no more
+pub record Stored (reads writes : List ℕ) : Type 0 where
   pub few-reads : length reads ≤ 8
   pub few-writes : length writes ≤ 8
   pub reads-rise : rising reads ≡ true

@@ -5,8 +5,8 @@ use mathlib.Core.List.{List, [], _∷_}
 use lib.Dec.{eqb, ltb, leb}
 use lib.ListN.{length, getD}
 use Rattle.rules.specs.Lists.{if_then_else_, before, total}
-use Rattle.rules.specs.Records.{rising, meets}
-use Rattle.rules.specs.Request.{Request, nobody, size, isNamed, isFree, isBlocked}
+use Rattle.rules.specs.Records.{rising}
+use Rattle.rules.specs.Request.{Request, nobody, reduced, size, isNamed, isFree, isBlocked}
 use Rattle.rules.specs.Table.{Table, meterOf, isTenant, placesOf, mostFuel, mostSerials}
 use Rattle.rules.specs.Prices.{Prices, admission}
 
@@ -39,14 +39,15 @@ isAbsent who serial q = leb (length q) (standsAt who serial q)
 abbrev pub entryOf : ℕ → ℕ → List Request → Request
 entryOf who serial q = getD q (standsAt who serial q) nobody
 
--- "Begin takes 1 to 9 in number order"; e is the request as it would join
+-- "Begin takes 1 to 9 in number order"; asked is the request with its lists as given. Document 02, item 4: "The limits of 8 apply
+-- to the lists as given", "All else uses the reduced lists", and "5 is no longer given".
 unfoldable pub beginRows : Prices → Table → Request → List Row
-beginRows p t e =
+beginRows p t asked =
+    let e = reduced asked in
     not (isTenant (e .tenant)) gives 1 ∷
     isDry t (e .tenant) gives 2 ∷
-    (ltb 8 (length (e .reads)) || ltb 8 (length (e .writes))) gives 3 ∷
+    (ltb 8 (length (asked .reads)) || ltb 8 (length (asked .writes))) gives 3 ∷
     not (rising (e .reads) && rising (e .writes)) gives 4 ∷
-    meets (e .reads) (e .writes) gives 5 ∷
     ltb 15 (e .awaited) gives 6 ∷
     leb (meterOf t (e .tenant) .share) (placesOf (t .queue) (e .tenant)) gives 7 ∷
     leb mostSerials (meterOf t (e .tenant) .serials) gives 8 ∷

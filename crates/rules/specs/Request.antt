@@ -7,7 +7,7 @@ use lib.ListN.{length}
 use Rattle.rules.specs.declared.Mode.{Mode}
 use Rattle.rules.specs.declared.Mode.the-variants.{Free, Waiting, Blocked}
 use Rattle.rules.specs.Lists.{if_then_else_, some}
-use Rattle.rules.specs.Records.{meets}
+use Rattle.rules.specs.Records.{meets, onlyRead}
 
 -- "An entry is named by tenant and serial ... It keeps the awaited answers it was opened with and those still due"
 pub record Request : Type 0 where
@@ -23,7 +23,7 @@ pub record Request : Type 0 where
 abbrev pub nobody : Request
 nobody = record { tenant = 0; serial = 0; mode = Free; awaited = 0; due = 0; reads = []; writes = [] }
 
--- a request as it is asked for: all its answers are due, and it is Blocked until it is found clear
+-- a request as it is asked for, with its lists as given: all its answers are due, and it is Blocked until it is found clear
 abbrev pub requested : ℕ → ℕ → ℕ → List ℕ → List ℕ → Request
 requested who serial awaited reads writes = record {
   tenant = who;
@@ -33,6 +33,18 @@ requested who serial awaited reads writes = record {
   due = awaited;
   reads = reads;
   writes = writes;
+}
+
+-- a request as it is stored: with the reduced lists
+abbrev pub reduced : Request → Request
+reduced e = record {
+  tenant = e .tenant;
+  serial = e .serial;
+  mode = e .mode;
+  awaited = e .awaited;
+  due = e .due;
+  reads = onlyRead (e .reads) (e .writes);
+  writes = e .writes;
 }
 
 -- "n is an entry's number of records, reads and writes together"

@@ -6,7 +6,7 @@ use lib.Dec.{eqb}
 use Rattle.rules.specs.declared.Kind.{Kind}
 use Rattle.rules.specs.declared.Event.{Event}
 use Rattle.rules.specs.Lists.{if_then_else_, total, countIf}
-use Rattle.rules.specs.Request.{size}
+use Rattle.rules.specs.Request.{reduced, size}
 use Rattle.rules.specs.Table.{Table}
 use Rattle.rules.specs.CallTable.{Role, rowOf, isOpening, payer}
 use Rattle.rules.specs.Prices.{Prices, admission, searching}
@@ -85,7 +85,7 @@ callerOf c = payer (roleOf c) (eventOf c .tenant)
 unfoldable pub priceOf : Prices → Table → Call → ℕ
 priceOf p t (Begin who awaited reads writes) =
     let e = asked t who awaited reads writes in
-    toPay p t who (firstOf (beginRows p t e)) (admission p e)
+    toPay p t who (firstOf (beginRows p t e)) (admission p (reduced e))
 priceOf p t (Finish who serial) = toPay p t who (firstOf (finishRows t who serial)) (p .finish)
 priceOf p t (Recheck who serial) =
     toPay p t who (firstOf (recheckRows p t who serial)) (p .recheck (size (entryOf who serial (t .queue))))

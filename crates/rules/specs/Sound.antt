@@ -6,7 +6,7 @@ use mathlib.Core.Bool.{true, false}
 use mathlib.Core.List.{List, [], _∷_}
 use lib.ListN.{length}
 use Rattle.rules.specs.Lists.{total}
-use Rattle.rules.specs.Records.{WellFormed}
+use Rattle.rules.specs.Records.{Stored}
 use Rattle.rules.specs.Request.{Request, size, conflict, isFree, isWaiting, isBlocked}
 use Rattle.rules.specs.Table.{Table, isTenant, meterOf, placesOf, mostFuel, mostSerials}
 
@@ -35,7 +35,7 @@ pub record Fit (given : ℕ → ℕ) (e : Request) : Type 0 where
   pub waiting : isWaiting (e .mode) ≡ true → 0 < e .due
   pub blocked : isBlocked (e .mode) ≡ true → 0 < size e
   -- "lists keep refusals 3 to 5"
-  pub lists : WellFormed (e .reads) (e .writes)
+  pub lists : Stored (e .reads) (e .writes)
 
 abbrev pub givenBy : Table → ℕ → ℕ
 givenBy t who = meterOf t who .serials

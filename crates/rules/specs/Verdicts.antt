@@ -9,8 +9,8 @@ use lib.Dec.{ltb}
 use lib.ListN.{length, getD}
 use Rattle.rules.specs.declared.Mode.the-variants.{Free, Waiting, Blocked}
 use Rattle.rules.specs.Lists.{if_then_else_}
-use Rattle.rules.specs.Records.{member, WellFormed}
-use Rattle.rules.specs.Request.{Request, nobody, requested, conflict, conflictsAny, admitted}
+use Rattle.rules.specs.Records.{member, Stored}
+use Rattle.rules.specs.Request.{Request, nobody, requested, reduced, conflict, conflictsAny, admitted}
 use Rattle.rules.specs.Counters.{cx, cs, figure2, alone}
 use Rattle.rules.specs.Scan.{noRecords, mapsOver, clearBy}
 use Rattle.rules.specs.Calls.{withoutEntry}
@@ -30,16 +30,16 @@ ConflictExact =
 abbrev pub Figure2Tells : Type 0
 Figure2Tells =
     (q : List Request) (e : Request) →
-    WellFormed (e .reads) (e .writes) →
+    Stored (e .reads) (e .writes) →
     figure2 (cx (q ++ e ∷ [])) (cs (q ++ e ∷ [])) e ≡ conflictsAny q e
 
 -- "It is Blocked exactly if it conflicts with some entry queued before it; otherwise it is Waiting if awaited is above 0, and Free if
--- awaited is 0": all its answers are due at admission
+-- awaited is 0": told from the lists as given, and all its answers are due at admission
 abbrev pub BeginTells : Type 0
 BeginTells =
     (q : List Request) (who serial awaited : ℕ) (reads writes : List ℕ) →
     let e = requested who serial awaited reads writes in
-    admitted q e .mode ≡ (if conflictsAny q e then Blocked else (if ltb 0 awaited then Waiting else Free))
+    admitted q (reduced e) .mode ≡ (if conflictsAny q e then Blocked else (if ltb 0 awaited then Waiting else Free))
 
 -- Recheck goes by the counters, and so by all other entries, ahead and behind
 abbrev pub RecheckTells : Type 0
@@ -47,7 +47,7 @@ RecheckTells =
     (q : List Request) (at : ℕ) →
     let e = getD q at nobody in
     at < length q →
-    WellFormed (e .reads) (e .writes) →
+    Stored (e .reads) (e .writes) →
     alone (cx q) (cs q) e ≡ not (conflictsAny (withoutEntry at q) e)
 
 -- Scan: "The map's verdict and the plain comparison must agree on every queue"

@@ -2,7 +2,8 @@
 //! queue), changed in place behind a `&mut`, as plain Rust would do it.
 
 use crate::tenants::{
-    begin_price, look_price, well_formed, Answer, Mode, Outcome, Refusal, Tenants, MOST_RECORDS,
+    begin_price, look_price, well_formed, Answer, Mode, OnlyRead, Outcome, Refusal, Tenants,
+    MOST_RECORDS,
 };
 use crate::work::Locks;
 
@@ -99,21 +100,22 @@ impl Table {
             .position(|entry| entry.tenant == who && entry.serial == serial)
     }
 
-    /// Refusals 1 to 9 in number order, or the price.
+    /// Refusals 1 to 9 in number order, or what the request only reads and its
+    /// price.
     fn admissible(
         &self,
         who: u8,
         awaited: u8,
         reads: &[u8],
         writes: &[u8],
-    ) -> Result<u32, Refusal> {
+    ) -> Result<(OnlyRead, u32), Refusal> {
         let meter = self.tenants.fuelled(who)?;
-        well_formed(awaited, reads, writes)?;
+        let only_read = well_formed(awaited, reads, writes)?;
         let own = self.queue().iter().filter(|entry| entry.tenant == who);
         let held = own.take(usize::from(meter.share)).count();
-        let price = begin_price(reads.len() + writes.len());
+        let price = begin_price(only_read.records().len() + writes.len());
         Tenants::affords(meter, held, price)?;
-        Ok(price)
+        Ok((only_read, price))
     }
 
     /// The clash of figure 2, the request's own counts included.
@@ -193,10 +195,11 @@ impl Locks for Table {
     }
 
     fn begin(&mut self, who: u8, awaited: u8, reads: &[u8], writes: &[u8]) -> Outcome {
-        let price = match self.admissible(who, awaited, reads, writes) {
-            Ok(price) => price,
+        let (only_read, price) = match self.admissible(who, awaited, reads, writes) {
+            Ok(admitted) => admitted,
             Err(number) => return self.tenants.refuse(who, number),
         };
+        let reads = only_read.records();
         for &record in reads {
             self.cs[usize::from(record)] += 1;
         }
@@ -312,6 +315,25 @@ mod tests {
         assert_eq!(table.finish(1, 3).answer, Err(11));
         assert_eq!(table.finish(1, 9).answer, Err(10));
         assert_eq!(table.tenants().meter(1).unwrap().fuel, 40 - 12 - 2);
+    }
+
+    #[test]
+    fn a_record_in_both_lists_is_counted_once() {
+        let mut table: Table = opened(&[(1, 40), (2, 40)]);
+        let begun = table.begin(1, 0, &[9, 7, 9], &[9]);
+        assert_eq!((begun.answer, begun.burnt), (named(Mode::Free, 1, 1), 6));
+        assert_eq!((table.cx[9], table.cs[9], table.cs[7]), (1, 0, 1));
+        // 7 is only read
+        assert_eq!(table.begin(2, 0, &[7], &[]).answer, named(Mode::Free, 2, 1));
+        for (serial, reads, writes) in [(2, &[9][..], &[9][..]), (3, &[9], &[]), (4, &[], &[9])] {
+            let begun = table.begin(2, 0, reads, writes);
+            assert_eq!(begun.answer, named(Mode::Blocked, 2, serial));
+        }
+        table.finish(1, 1);
+        assert_eq!((table.cx[9], table.cs[9], table.cs[7]), (2, 1, 1));
+        // 1 for the search, 2 for each entry of one record
+        let found = table.scan(2);
+        assert_eq!((found.answer, found.burnt), (named(Mode::Free, 2, 2), 5));
     }
 
     #[test]

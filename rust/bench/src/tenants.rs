@@ -146,21 +146,50 @@ fn seat(who: u8) -> Result<usize, Refusal> {
     }
 }
 
-/// Refusals 3 to 6 of a Begin.
-pub fn well_formed(awaited: u8, reads: &[u8], writes: &[u8]) -> Result<(), Refusal> {
+/// The records that a request reads and does not write, in their order.
+#[derive(Clone, Copy, Debug, PartialEq, Eq)]
+pub struct OnlyRead {
+    records: [u8; MOST_RECORDS],
+    count: usize,
+}
+
+impl OnlyRead {
+    /// Of lists of up to 8 records. "A record in both lists shall count as
+    /// written only" (document 02, Item 4).
+    fn of(reads: &[u8], writes: &[u8]) -> OnlyRead {
+        let mut only_read = OnlyRead {
+            records: [0; MOST_RECORDS],
+            count: 0,
+        };
+        for record in reads {
+            if !writes.contains(record) {
+                only_read.records[only_read.count] = *record;
+                only_read.count += 1;
+            }
+        }
+        only_read
+    }
+
+    pub fn records(&self) -> &[u8] {
+        &self.records[..self.count]
+    }
+}
+
+/// Refusals 3, 4 and 6 of a Begin, or what it only reads. 3 is judged on the
+/// lists as given, 4 on the reduced ones; 5 is no longer given, and its number
+/// stays unused.
+pub fn well_formed(awaited: u8, reads: &[u8], writes: &[u8]) -> Result<OnlyRead, Refusal> {
     if reads.len() > MOST_RECORDS || writes.len() > MOST_RECORDS {
         return Err(3);
     }
-    if !rises(reads) || !rises(writes) {
+    let only_read = OnlyRead::of(reads, writes);
+    if !rises(only_read.records()) || !rises(writes) {
         return Err(4);
-    }
-    if reads.iter().any(|record| writes.contains(record)) {
-        return Err(5);
     }
     if awaited > MOST_AWAITED {
         return Err(6);
     }
-    Ok(())
+    Ok(only_read)
 }
 
 fn rises(records: &[u8]) -> bool {
@@ -183,10 +212,11 @@ mod tests {
 
     #[test]
     fn a_begin_is_refused_in_the_order_of_the_document() {
-        assert_eq!(well_formed(0, &[1, 2], &[3, 4]), Ok(()));
-        assert_eq!(well_formed(16, &[9; 9], &[]), Err(3));
-        assert_eq!(well_formed(16, &[7, 7], &[7]), Err(4));
-        assert_eq!(well_formed(16, &[7], &[7]), Err(5));
+        assert_eq!(well_formed(16, &[9; 9], &[9]), Err(3));
+        assert_eq!(well_formed(16, &[7, 7], &[8]), Err(4));
+        assert_eq!(well_formed(16, &[3, 9, 3], &[9]), Err(4));
+        assert_eq!(well_formed(16, &[7], &[7, 7]), Err(4));
+        assert_eq!(well_formed(16, &[7], &[7]), Err(6));
         assert_eq!(well_formed(16, &[7], &[8]), Err(6));
         let meter = |share, serials| Meter {
             fuel: 3,
@@ -197,6 +227,22 @@ mod tests {
         assert_eq!(Tenants::affords(meter(1, 65_535), 0, 4), Err(8));
         assert_eq!(Tenants::affords(meter(1, 0), 0, 4), Err(9));
         assert_eq!(Tenants::affords(meter(1, 0), 0, 3), Ok(()));
+    }
+
+    #[test]
+    fn what_is_written_is_not_among_the_reads() {
+        let cases: [(&[u8], &[u8], &[u8]); 6] = [
+            (&[1, 2], &[3, 4], &[1, 2]),
+            (&[7], &[7], &[]),
+            (&[7, 7], &[7], &[]),
+            (&[9, 3], &[9], &[3]),
+            (&[9, 3, 9, 5], &[9], &[3, 5]),
+            (&[1, 2, 3, 4, 5, 6, 7, 8], &[2, 8], &[1, 3, 4, 5, 6, 7]),
+        ];
+        for (reads, writes, only_read) in cases {
+            let found = well_formed(0, reads, writes).unwrap();
+            assert_eq!(found.records(), only_read);
+        }
     }
 
     #[test]

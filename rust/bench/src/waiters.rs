@@ -1,7 +1,9 @@
 //! The usual lock table: a map from a record to the list of those who want it,
 //! in their order. A Finish wakes whom it leaves clear, so there is no scan.
 
-use crate::tenants::{begin_price, well_formed, Answer, Mode, Outcome, Refusal, Tenants, TENANTS};
+use crate::tenants::{
+    begin_price, well_formed, Answer, Mode, OnlyRead, Outcome, Refusal, Tenants, TENANTS,
+};
 use crate::work::Locks;
 use std::collections::hash_map::{Entry, HashMap};
 
@@ -29,19 +31,20 @@ pub struct Table {
 }
 
 impl Table {
-    /// Refusals 1 to 9 in number order, or the price.
+    /// Refusals 1 to 9 in number order, or what the request only reads and its
+    /// price.
     fn admissible(
         &self,
         who: u8,
         awaited: u8,
         reads: &[u8],
         writes: &[u8],
-    ) -> Result<u32, Refusal> {
+    ) -> Result<(OnlyRead, u32), Refusal> {
         let meter = self.tenants.fuelled(who)?;
-        well_formed(awaited, reads, writes)?;
-        let price = begin_price(reads.len() + writes.len());
+        let only_read = well_formed(awaited, reads, writes)?;
+        let price = begin_price(only_read.records().len() + writes.len());
         Tenants::affords(meter, self.held[usize::from(who) - 1], price)?;
-        Ok(price)
+        Ok((only_read, price))
     }
 
     /// "Finish: 1; then a Free entry of that name succeeds even on a dry tank;
@@ -114,10 +117,11 @@ impl Locks for Table {
     }
 
     fn begin(&mut self, who: u8, awaited: u8, reads: &[u8], writes: &[u8]) -> Outcome {
-        let price = match self.admissible(who, awaited, reads, writes) {
-            Ok(price) => price,
+        let (only_read, price) = match self.admissible(who, awaited, reads, writes) {
+            Ok(admitted) => admitted,
             Err(number) => return self.tenants.refuse(who, number),
         };
+        let reads = only_read.records();
         let serial = self.tenants.admit(who, price);
         self.held[usize::from(who) - 1] += 1;
         let mut clear = true;
@@ -207,6 +211,27 @@ mod tests {
             table.finish(1, 1);
             assert_eq!(mode_of(&table, (2, 1)), mode);
         }
+    }
+
+    #[test]
+    fn a_record_in_both_lists_is_waited_for_once() {
+        let mut table: Table = opened(&[(1, 40), (2, 40)]);
+        let begun = table.begin(1, 0, &[9, 7, 9], &[9]);
+        let free = Answer::Named(Mode::Free, 1, 1);
+        assert_eq!((begun.answer, begun.burnt), (Ok(free), 6));
+        assert_eq!((table.lists[&9].len(), table.lists[&7].len()), (1, 1));
+        // 7 is only read
+        table.begin(2, 0, &[7], &[]);
+        assert_eq!(mode_of(&table, (2, 1)), Mode::Free);
+        table.begin(2, 0, &[9], &[9]);
+        table.begin(2, 0, &[9], &[]);
+        assert_eq!(mode_of(&table, (2, 2)), Mode::Blocked);
+        table.finish(1, 1);
+        assert_eq!(mode_of(&table, (2, 2)), Mode::Free);
+        assert_eq!(mode_of(&table, (2, 3)), Mode::Blocked);
+        table.finish(2, 2);
+        assert_eq!(mode_of(&table, (2, 3)), Mode::Free);
+        assert_eq!(table.lists[&9].len(), 1);
     }
 
     #[test]

@@ -278,6 +278,22 @@ mod tests {
         ));
     }
 
+    /// No call stores such an entry: a record in both lists of a Begin is stored
+    /// among the writes alone.
+    #[test]
+    fn a_record_in_both_lists() {
+        let mut bytes = block();
+        // 16.1 reads 0 and writes 0, where it read 0 and 10
+        bytes[ENTRIES_AT + ENTRY_BYTES + 6..ENTRIES_AT + ENTRY_BYTES + 10]
+            .copy_from_slice(&[1, 1, 0, 0]);
+        let told = agreed(&bytes);
+        assert!(told.starts_with(
+            "not sound: entry 2 (16.1) has a record in both lists\n\
+             \x20 the rule: lists keep refusals 3 and 4, and no record is in both\n"
+        ));
+        assert!(told.contains("  2. 16.1 blocked, awaited 3, due 2, reads 0, writes 0\n"));
+    }
+
     /// Whatever the bytes are, there are words for them.
     #[test]
     fn any_bytes() {

@@ -65,6 +65,9 @@ fn begin(random: &mut Random, table: &Table) -> Call {
     let mut lists = near_lists(random, table);
     if random.chance(15) {
         spoil(random, &mut lists);
+    } else if random.chance(25) {
+        let reads = random.between(0, 8);
+        lists.read_written(random, reads);
     }
     let awaited = random.one_of(&[0, 0, 0, 0, 1, 2, 15, 15, 16, 255]);
     begin_of(tenant, awaited, lists)
@@ -87,7 +90,8 @@ pub fn tenants_with_a_place(table: &Table) -> Vec<u8> {
     (1..=TENANTS as u8).filter(places).collect()
 }
 
-/// Lists that keep refusals 3 to 5, often on records that the queue has.
+/// Lists that keep refusals 3 and 4 and have no record in common, often on
+/// records that the queue has.
 pub fn near_lists(random: &mut Random, table: &Table) -> Lists {
     let requests = table.queue.iter().map(|entry| &entry.request);
     let mut pool: Vec<u8> = requests
@@ -104,7 +108,7 @@ pub fn near_lists(random: &mut Random, table: &Table) -> Lists {
     Lists::drawn(random, &pool, reads, writes)
 }
 
-/// Makes lists that refusals 3 to 5 forbid, mostly.
+/// Makes lists that refusals 3 and 4 forbid, mostly, or one list twice.
 pub fn spoil(random: &mut Random, lists: &mut Lists) {
     let list = if random.chance(50) {
         &mut lists.reads

@@ -254,7 +254,9 @@ fn unknown_tag(random: &mut Random) -> Vec<u8> {
     file
 }
 
-/// 8 and 9 reads, 8 and 9 writes, and all 16 records.
+/// 8 and 9 reads, 8 and 9 writes, and all 16 records; then 8 that are read and
+/// written, and 9 reads that are 8 without the written one: "The limits of 8
+/// apply to the lists as given."
 fn list_limits(random: &mut Random) -> Vec<u8> {
     let mut sheet = Sheet::open([4; TENANTS]);
     let tenant = random.byte_between(1, 16);
@@ -270,6 +272,16 @@ fn list_limits(random: &mut Random) -> Vec<u8> {
         writes: (first + 8..first + 16).collect(),
     };
     sheet.begin(tenant, 0, &both);
+    let same = Lists {
+        reads: row(8),
+        writes: row(8),
+    };
+    sheet.begin(tenant, 0, &same);
+    let nine = Lists {
+        reads: row(9),
+        writes: vec![random.one_of(&[first, first + 8])],
+    };
+    sheet.begin(tenant, 0, &nine);
     sheet.scan(tenant);
     sheet.into_bytes()
 }

@@ -19,6 +19,7 @@ pub fn reached(random: &mut Random) -> Table {
         Kind::Scarce,
         Kind::Remote,
         Kind::Early,
+        Kind::Overlap,
     ];
     let kind = random.one_of(&kinds);
     let file = generate(random.draw() >> 16, kind);

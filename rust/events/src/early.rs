@@ -3,6 +3,7 @@
 //! finished after that, or gets the rest first. Fuel is granted as it is needed,
 //! so that most entries leave on a dry tank.
 
+use crate::aim::tenants_with_a_place;
 use crate::random::Random;
 use crate::sheet::{Lists, Name, Sheet};
 use second::table::TENANTS;
@@ -62,7 +63,7 @@ fn turn(random: &mut Random, sheet: &mut Sheet, hot: &[u8], by: By, came: Came) 
         Came::All => 0,
         Came::Some => random.byte_between(1, due - 1),
     };
-    deliver_down_to(sheet, name, left);
+    sheet.deliver_down_to(name, left);
     if came == Came::All && random.chance(30) {
         sheet.deliver(name);
     }
@@ -77,27 +78,16 @@ fn turn(random: &mut Random, sheet: &mut Sheet, hot: &[u8], by: By, came: Came) 
 /// A request of a tenant with a place, which is granted what it lacks of the
 /// price, and at times a little more.
 fn begin(random: &mut Random, sheet: &mut Sheet, hot: &[u8]) {
-    let tenants: Vec<u8> = (1..=TENANTS as u8)
-        .filter(|&tenant| sheet.has_place(tenant))
-        .collect();
-    let tenant = match random.any_of(&tenants) {
+    let tenant = match random.any_of(&tenants_with_a_place(&sheet.table)) {
         Some(tenant) => tenant,
         None => return,
     };
     let (reads, writes) = (random.between(0, 1), random.between(1, 2));
     let lists = Lists::drawn(random, hot, reads, writes);
-    let n = (lists.reads.len() + lists.writes.len()) as u32;
-    let price = price::begin(n) + random.one_of(&[0, 0, 1, 5]);
-    fuel_up(sheet, tenant, price);
+    let price = price::begin(lists.n()) + random.one_of(&[0, 0, 1, 5]);
+    sheet.fuel_up(tenant, price);
     let awaited = random.one_of(&[0, 1, 1, 2, 2, 3, 3, 4, 15]);
     sheet.begin(tenant, awaited, &lists);
-}
-
-fn fuel_up(sheet: &mut Sheet, tenant: u8, wanted: u32) {
-    let left = sheet.fuel(tenant);
-    if left < wanted {
-        sheet.grant(tenant, wanted - left);
-    }
 }
 
 /// A Blocked entry with answers due, and how many. There are more begins until
@@ -134,19 +124,11 @@ fn candidates(sheet: &Sheet, by: By, came: Came) -> Vec<(Name, u8)> {
     found
 }
 
-/// Answers come until so many are left due.
-fn deliver_down_to(sheet: &mut Sheet, name: Name, left: u8) {
-    let due = sheet.place(name).map_or(0, |at| sheet.table.queue[at].due);
-    for _ in left..due {
-        sheet.deliver(name);
-    }
-}
-
 /// Entries leave from the front until the call can promote this one.
 fn clear_the_way(random: &mut Random, sheet: &mut Sheet, name: Name, by: By) {
     for _ in 0..PLACES {
         match sheet.place(name) {
-            Some(at) if in_the_way(&sheet.table.queue, at, by) => front_leaves(random, sheet),
+            Some(at) if in_the_way(&sheet.table.queue, at, by) => sheet.front_leaves(random),
             _ => return,
         }
     }
@@ -158,17 +140,6 @@ fn in_the_way(queue: &[Entry], at: usize, by: By) -> bool {
     ahead.any(|other| by == By::Pick || queue[at].conflicts_with(other))
 }
 
-/// The answers of a front that is Blocked come before its Pick or after it.
-fn front_leaves(random: &mut Random, sheet: &mut Sheet) {
-    let front = (sheet.table.queue[0].tenant, sheet.table.queue[0].serial);
-    if random.chance(50) {
-        deliver_down_to(sheet, front, 0);
-    }
-    sheet.pick();
-    deliver_down_to(sheet, front, 0);
-    sheet.finish(front);
-}
-
 /// A Scan may take entries of the same tenant first, one each.
 fn promote(sheet: &mut Sheet, name: Name, by: By) {
     for _ in 0..SHARE {
@@ -177,7 +148,7 @@ fn promote(sheet: &mut Sheet, name: Name, by: By) {
             _ => return,
         };
         let price = price_of(&sheet.table.queue, at, by);
-        fuel_up(sheet, name.0, price);
+        sheet.fuel_up(name.0, price);
         match by {
             By::Recheck => sheet.recheck(name),
             By::Scan => sheet.scan(name.0),
@@ -204,7 +175,7 @@ fn price_of(queue: &[Entry], at: usize, by: By) -> u32 {
 fn bring_out(random: &mut Random, sheet: &mut Sheet, name: Name) {
     for _ in 0..random.between(0, 2) {
         if random.chance(50) {
-            fuel_up(sheet, name.0, 1);
+            sheet.fuel_up(name.0, 1);
         }
         match random.below(3) {
             0 => sheet.finish(name),
@@ -213,7 +184,7 @@ fn bring_out(random: &mut Random, sheet: &mut Sheet, name: Name) {
         };
     }
     if random.chance(85) {
-        deliver_down_to(sheet, name, 0);
+        sheet.deliver_down_to(name, 0);
         sheet.finish(name);
     }
 }

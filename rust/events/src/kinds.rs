@@ -4,6 +4,7 @@ use crate::boundary::boundary;
 use crate::damaged::damaged;
 use crate::early::early;
 use crate::load::{deep, mixed, remote, scarce};
+use crate::overlap::overlap;
 use crate::random::Random;
 use crate::refusals::refusals;
 use crate::worst::worst;
@@ -19,11 +20,12 @@ pub enum Kind {
     Damaged,
     Boundary,
     Early,
+    Overlap,
 }
 
 /// In this order: a kind's place goes into its random numbers, so a new kind
 /// joins at the end.
-pub const KINDS: [(&str, Kind); 9] = [
+pub const KINDS: [(&str, Kind); 10] = [
     ("mixed", Kind::Mixed),
     ("deep", Kind::Deep),
     ("scarce", Kind::Scarce),
@@ -33,6 +35,7 @@ pub const KINDS: [(&str, Kind); 9] = [
     ("damaged", Kind::Damaged),
     ("boundary", Kind::Boundary),
     ("early", Kind::Early),
+    ("overlap", Kind::Overlap),
 ];
 
 impl Kind {
@@ -63,5 +66,6 @@ pub fn generate(seed: u64, kind: Kind) -> Vec<u8> {
         Kind::Damaged => damaged(&mut random),
         Kind::Boundary => boundary(seed, &mut random),
         Kind::Early => early(&mut random),
+        Kind::Overlap => overlap(&mut random),
     }
 }

@@ -25,6 +25,7 @@ pub mod encode;
 pub mod kinds;
 mod load;
 pub mod long;
+mod overlap;
 pub mod program;
 pub mod random;
 mod refusals;

@@ -263,11 +263,9 @@ pub fn scarce(random: &mut Random) -> Vec<u8> {
 fn begin_at_the_price(random: &mut Random, sheet: &mut Sheet, load: &Load) {
     let tenant = random.byte_between(1, load.tenants);
     let lists = load.lists(random);
-    let n = lists.reads.len() + lists.writes.len();
+    let n = lists.n() as usize;
     let wanted = random.between(1 + 2 * n, 3 + 2 * n) as u32;
-    if sheet.fuel(tenant) < wanted {
-        sheet.grant(tenant, wanted - sheet.fuel(tenant));
-    }
+    sheet.fuel_up(tenant, wanted);
     sheet.begin(tenant, 0, &lists);
     let own_free = sheet.names(|entry| entry.tenant == tenant && entry.state == State::Free);
     if let Some(name) = random.any_of(&own_free) {

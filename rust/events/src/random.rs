@@ -58,6 +58,17 @@ impl Random {
         }
     }
 
+    /// Puts one of `from`, if there is any, somewhere into the list, so many
+    /// times.
+    pub fn strew<T: Copy>(&mut self, list: &mut Vec<T>, from: &[T], times: usize) {
+        for _ in 0..times {
+            if let Some(item) = self.any_of(from) {
+                let at = self.between(0, list.len());
+                list.insert(at, item);
+            }
+        }
+    }
+
     pub fn shuffle<T>(&mut self, items: &mut [T]) {
         for last in (1..items.len()).rev() {
             items.swap(last, self.below(last + 1));

@@ -1,6 +1,6 @@
 //! Refusals: a file of small scenes, each of which leads to one refusal
 //! number or to the first of several. Together they reach every number that a
-//! file can (8 needs more calls than a file holds).
+//! file can (8 needs more calls than a file holds, and 5 is no longer given).
 
 use crate::random::Random;
 use crate::sheet::{Lists, Name, Shares, Sheet};
@@ -112,24 +112,29 @@ fn dry(random: &mut Random, sheet: &mut Sheet) {
     };
 }
 
-/// 3, at times with a list that does not rise either.
+/// 3, at times with a list that does not rise either, and at times with reads
+/// that would be few enough without the written ones.
 fn too_many_records(random: &mut Random, sheet: &mut Sheet) {
     let count = random.one_of(&[9, 9, 9, 10, 16, 40]);
     let mut records = random.bytes(count);
     if random.chance(70) {
         records = (0..count).map(|record| record as u8).collect();
     }
-    let lists = if random.chance(50) {
+    let mut lists = if random.chance(50) {
         Lists::reading(&records)
     } else {
         Lists::writing(&records)
     };
+    if random.chance(20) {
+        lists = few_records(random);
+        lists.read_written(random, count);
+    }
     sheet.begin(random.one_of(&ORDINARY), 0, &lists);
 }
 
 /// 4, at times with a record in both lists too.
 fn not_rising(random: &mut Random, sheet: &mut Sheet) {
-    let record = random.byte_between(1, 255);
+    let record = random.byte_between(1, 254);
     let below = random.byte_between(0, record - 1);
     let bad = random.one_of(&[[record, record], [record, below]]);
     let mut lists = if random.chance(50) {
@@ -138,21 +143,33 @@ fn not_rising(random: &mut Random, sheet: &mut Sheet) {
         Lists::writing(&bad)
     };
     if random.chance(30) {
-        lists = Lists {
-            reads: bad.to_vec(),
-            writes: vec![record],
-        };
+        lists = both_and_not_rising(random, &bad);
     }
     sheet.begin(random.one_of(&ORDINARY), 0, &lists);
 }
 
-/// 5, at times with too many awaited answers too.
+/// The bad list, none of whose records is 255, as the reads that are not written,
+/// or as the writes.
+fn both_and_not_rising(random: &mut Random, bad: &[u8]) -> Lists {
+    let mut lists = Lists {
+        reads: bad.to_vec(),
+        writes: vec![255],
+    };
+    if random.chance(50) {
+        lists = Lists::writing(bad);
+    }
+    lists.read_written(random, bad.len() + 1);
+    lists
+}
+
+/// No refusal of its own: a record in both lists counts as written only. At times
+/// there are too many awaited answers.
 fn in_both_lists(random: &mut Random, sheet: &mut Sheet) {
     let pool: Vec<u8> = (0..=255).collect();
     let mut lists = Lists::drawn(random, &pool, 3, 3);
-    lists.writes[2] = random.one_of(&lists.reads);
-    lists.sort();
-    let awaited = random.one_of(&[0, 1, 16]);
+    let reads = random.between(4, 8);
+    lists.read_written(random, reads);
+    let awaited = random.one_of(&[0, 0, 1, 16]);
     sheet.begin(random.one_of(&ORDINARY), awaited, &lists);
 }
 

@@ -1,7 +1,7 @@
 //! Scenes on a sound state: it is changed a little, and so that it stays sound,
-//! and a call is made that must be refused with one number, must just succeed
-//! where a unit, a place or a serial less would not do, or must promote an entry
-//! that got answers while it was Blocked.
+//! and a call is made that must be refused with one number (5 is no longer given),
+//! must just succeed where a unit, a place or a serial less would not do, or must
+//! promote an entry that got answers while it was Blocked.
 
 use crate::aim::{begin_of, near_lists, open, tenants_with_a_place, NO_TENANTS};
 use crate::compose::held;
@@ -15,19 +15,33 @@ use second::{apply, price, Answer, Entry, Event, State, Table};
 pub type Scene = fn(&mut Random, &mut Table) -> Option<Call>;
 
 /// The refusal that must come, 0 for none, and what the scene is.
-pub const SCENES: [(u8, &str, Scene); 34] = [
+pub const SCENES: [(u8, &str, Scene); 37] = [
     (1, "no such tenant", no_such_tenant),
     (2, "begin on a dry tank", dry_begin),
     (2, "recheck on a dry tank", dry_recheck),
     (2, "scan on a dry tank", dry_scan),
     (2, "finish on a dry tank, not Free", dry_finish),
     (3, "too many records", too_many_records),
+    (
+        3,
+        "too many reads, of which most are written",
+        too_many_as_given,
+    ),
     (4, "not rising", not_rising),
-    (5, "a record in both lists", in_both_lists),
+    (
+        4,
+        "reads that do not rise, with written ones among them",
+        not_rising_when_reduced,
+    ),
     (6, "awaited above 15", awaited_too_high),
     (7, "the share is held", share_held),
     (8, "all serials given", serials_given),
     (9, "fuel below a begin's price", begin_below_price),
+    (
+        9,
+        "fuel below the price of the reduced lists",
+        overlap_below_price,
+    ),
     (9, "fuel below a recheck's price", recheck_below_price),
     (9, "a scan cut short", scan_cut_short),
     (10, "finish of no entry", finish_of_none),
@@ -39,6 +53,7 @@ pub const SCENES: [(u8, &str, Scene); 34] = [
     (13, "a grant too big", grant_too_big),
     (14, "shares too high or not 16", bad_shares),
     (0, "begin at its price", begin_at_price),
+    (0, "a record in both lists, at its price", overlap_at_price),
     (0, "begin with the last serial", last_serial),
     (0, "recheck at its price", recheck_at_price),
     (0, "scan at its price", scan_at_price),
@@ -94,10 +109,6 @@ fn with_a_place(random: &mut Random, table: &mut Table) -> u8 {
     let tenant = any_tenant(random);
     meter(table, tenant).share += 1;
     tenant
-}
-
-fn n(lists: &Lists) -> u32 {
-    (lists.reads.len() + lists.writes.len()) as u32
 }
 
 fn no_such_tenant(random: &mut Random, table: &mut Table) -> Option<Call> {
@@ -158,30 +169,49 @@ fn too_many_records(random: &mut Random, table: &mut Table) -> Option<Call> {
     Some(begin_of(tenant, random.one_of(&[0, 16]), lists))
 }
 
-fn not_rising(random: &mut Random, table: &mut Table) -> Option<Call> {
+/// "The limits of 8 apply to the lists as given": without the written ones there
+/// are at most 8 reads.
+fn too_many_as_given(random: &mut Random, table: &mut Table) -> Option<Call> {
     let tenant = fuelled(random, table);
     let mut lists = near_lists(random, table);
-    let record = random.byte_between(1, 255);
-    let wrong = random.one_of(&[[record, record], [record, record - 1]]);
-    if random.chance(50) {
-        lists.reads = wrong.to_vec();
-    } else {
-        lists.writes = wrong.to_vec();
+    let count = random.one_of(&[9, 9, 9, 16, 300]);
+    lists.read_written(random, count);
+    if lists.reads.len() < count {
+        return None;
     }
     Some(begin_of(tenant, random.one_of(&[0, 16]), lists))
 }
 
-fn in_both_lists(random: &mut Random, table: &mut Table) -> Option<Call> {
+/// Two records that do not rise, of which a read one is not written.
+fn not_rising(random: &mut Random, table: &mut Table) -> Option<Call> {
     let tenant = fuelled(random, table);
+    let lists = wrong_lists(random, table);
+    Some(begin_of(tenant, random.one_of(&[0, 16]), lists))
+}
+
+fn wrong_lists(random: &mut Random, table: &Table) -> Lists {
     let mut lists = near_lists(random, table);
-    let record = random.byte();
-    lists.writes.truncate(7);
-    lists.writes.push(record);
-    lists.reads.truncate(7);
-    lists.reads.push(record);
-    lists.sort();
-    lists.reads.dedup();
-    lists.writes.dedup();
+    let record = random.byte_between(1, 255);
+    let wrong = random.one_of(&[[record, record], [record, record - 1]]);
+    if random.chance(50) {
+        lists.writes.retain(|written| !wrong.contains(written));
+        lists.reads = wrong.to_vec();
+    } else {
+        lists.writes = wrong.to_vec();
+    }
+    lists
+}
+
+/// The same with written records among the reads, up to 8.
+fn not_rising_when_reduced(random: &mut Random, table: &mut Table) -> Option<Call> {
+    let tenant = fuelled(random, table);
+    let mut lists = wrong_lists(random, table);
+    let before = lists.reads.len();
+    let count = random.between(before, 8);
+    lists.read_written(random, count);
+    if lists.reads.len() == before {
+        return None;
+    }
     Some(begin_of(tenant, random.one_of(&[0, 16]), lists))
 }
 
@@ -214,7 +244,7 @@ fn good_begin(random: &mut Random, table: &mut Table) -> Option<(u8, Lists, u32)
         return None;
     }
     let lists = near_lists(random, table);
-    let price = price::begin(n(&lists));
+    let price = price::begin(lists.n());
     Some((tenant, lists, price))
 }
 
@@ -227,6 +257,31 @@ fn begin_below_price(random: &mut Random, table: &mut Table) -> Option<Call> {
 
 fn begin_at_price(random: &mut Random, table: &mut Table) -> Option<Call> {
     let (tenant, lists, price) = good_begin(random, table)?;
+    meter(table, tenant).fuel = price + random.one_of(&[0, 0, 1]);
+    Some(begin_of(tenant, random.one_of(&[0, 0, 1, 15]), lists))
+}
+
+/// A begin of such a tenant with written records among its reads, and the price
+/// of its reduced lists.
+fn good_overlap(random: &mut Random, table: &mut Table) -> Option<(u8, Lists, u32)> {
+    let (tenant, mut lists, price) = good_begin(random, table)?;
+    let before = lists.reads.len();
+    let count = random.between(before, 8);
+    lists.read_written(random, count);
+    if lists.reads.len() == before {
+        return None;
+    }
+    Some((tenant, lists, price))
+}
+
+fn overlap_below_price(random: &mut Random, table: &mut Table) -> Option<Call> {
+    let (tenant, lists, price) = good_overlap(random, table)?;
+    meter(table, tenant).fuel = random.one_of(&[price - 1, price - 1, 1]);
+    Some(begin_of(tenant, 0, lists))
+}
+
+fn overlap_at_price(random: &mut Random, table: &mut Table) -> Option<Call> {
+    let (tenant, lists, price) = good_overlap(random, table)?;
     meter(table, tenant).fuel = price + random.one_of(&[0, 0, 1]);
     Some(begin_of(tenant, random.one_of(&[0, 0, 1, 15]), lists))
 }
@@ -264,7 +319,7 @@ fn recheck_at_price(random: &mut Random, table: &mut Table) -> Option<Call> {
 }
 
 /// What a tenant's scan burns if it has all the fuel it wants.
-fn scan_price(table: &Table, tenant: u8) -> u32 {
+pub(crate) fn scan_price(table: &Table, tenant: u8) -> u32 {
     let mut rich = table.clone();
     meter(&mut rich, tenant).fuel = MOST_FUEL;
     rich.scan(tenant).burnt

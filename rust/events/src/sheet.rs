@@ -6,7 +6,7 @@ use crate::encode::{encode, encode_parts};
 use crate::random::Random;
 use second::reader::Event;
 use second::table::TENANTS;
-use second::{apply, Entry, Outcome, State, Table};
+use second::{apply, Entry, Outcome, Request, State, Table};
 
 pub type Shares = [u8; TENANTS];
 
@@ -66,6 +66,34 @@ impl Sheet {
     pub fn deliver(&mut self, (tenant, serial): Name) -> Outcome {
         self.call(Event::Deliver { tenant, serial })
     }
+
+    /// Grants what a tank lacks of that much fuel.
+    pub fn fuel_up(&mut self, tenant: u8, wanted: u32) {
+        let left = self.fuel(tenant);
+        if left < wanted {
+            self.grant(tenant, wanted - left);
+        }
+    }
+
+    /// Answers come until so many are left due.
+    pub fn deliver_down_to(&mut self, name: Name, left: u8) {
+        let due = self.place(name).map_or(0, |at| self.table.queue[at].due);
+        for _ in left..due {
+            self.deliver(name);
+        }
+    }
+
+    /// The front of a queue that is not empty leaves, which burns nothing. The
+    /// answers of one that is Blocked come before its Pick or after it.
+    pub fn front_leaves(&mut self, random: &mut Random) {
+        let front = (self.table.queue[0].tenant, self.table.queue[0].serial);
+        if random.chance(50) {
+            self.deliver_down_to(front, 0);
+        }
+        self.pick();
+        self.deliver_down_to(front, 0);
+        self.finish(front);
+    }
 }
 
 // Bytes that are no call of the steering state.
@@ -114,7 +142,7 @@ impl Sheet {
     }
 }
 
-/// The record lists of a Begin.
+/// The record lists of a Begin, as given.
 #[derive(Clone, Default)]
 pub struct Lists {
     pub reads: Vec<u8>,
@@ -136,8 +164,8 @@ impl Lists {
         }
     }
 
-    /// Lists that keep refusals 3 to 5: that many reads and writes, no record
-    /// twice, out of `pool` as far as it reaches.
+    /// Lists that keep refusals 3 and 4: that many reads and writes, no record
+    /// twice, be it in one list or in both, out of `pool` as far as it reaches.
     pub fn drawn(random: &mut Random, pool: &[u8], reads: usize, writes: usize) -> Lists {
         let mut pool = pool.to_vec();
         random.shuffle(&mut pool);
@@ -153,6 +181,20 @@ impl Lists {
     pub fn sort(&mut self) {
         self.reads.sort_unstable();
         self.writes.sort_unstable();
+    }
+
+    /// The n of a request with these lists: "A record in both lists ... is
+    /// counted once in n" (Item 4).
+    pub fn n(&self) -> u32 {
+        Request::reduced(0, &self.reads, &self.writes).n()
+    }
+
+    /// Written records are read too, until there are so many reads: anywhere in
+    /// the list, and one of them perhaps several times. The reduced lists stay
+    /// as they are.
+    pub fn read_written(&mut self, random: &mut Random, reads: usize) {
+        let more = reads.saturating_sub(self.reads.len());
+        random.strew(&mut self.reads, &self.writes, more);
     }
 }
 

@@ -8,7 +8,7 @@ use events::blocklines::{block_line, parse, Line};
 use events::breaks::BREAKS;
 use events::scenes::SCENES;
 use second::block::{self, Broken, BYTES, CLAUSES};
-use second::{Answer, Outcome, State, Table};
+use second::{Answer, Event, Outcome, State, Table};
 use std::collections::BTreeSet;
 
 const SEEDS: u64 = 20;
@@ -101,8 +101,10 @@ const WANTED: &str = "\
     open ok, open refused:14, open refused:15,\
     grant ok, grant refused:1, grant refused:13, grant refused:15,\
     begin free, begin waiting, begin blocked, begin refused:1, begin refused:2,\
-    begin refused:3, begin refused:4, begin refused:5, begin refused:6, begin refused:7,\
+    begin refused:3, begin refused:4, begin refused:6, begin refused:7,\
     begin refused:8, begin refused:9, begin refused:15,\
+    begin free of overlapping lists, begin waiting of overlapping lists,\
+    begin blocked of overlapping lists,\
     finish done, finish refused:1, finish refused:2, finish refused:10, finish refused:11,\
     finish refused:15,\
     recheck still, recheck free, recheck waiting, recheck refused:1, recheck refused:2,\
@@ -114,7 +116,7 @@ const WANTED: &str = "\
     deliver refused:12, deliver refused:15,\
     Length, Head, Unused, Shares, Fuel, Awaited, Count, Due, Tenant, AboveShare, Serial, State,\
     FreeWithDue, WaitingForNothing of 0 awaited, WaitingForNothing of some awaited,\
-    BlockedOnNothing, Lists 3, Lists 4, Lists 5, Counter Cx,\
+    BlockedOnNothing, Lists TooManyRecords, Lists NotRising, Lists InBothLists, Counter Cx,\
     Counter Cs, Conflict free, Conflict waiting,\
     empty queue, queue of 64, queue of another length,\
     free entry, waiting entry, blocked entry,\
@@ -134,6 +136,7 @@ fn everything_is_reached_and_nothing_else() {
             Ok(table) => {
                 shapes(&table, &mut seen);
                 seen.extend(answers_in(&case, &table));
+                seen.extend(overlap(&case));
             }
             Err(broken) => {
                 seen.insert(breach(&case.block, &broken));
@@ -154,6 +157,19 @@ fn answered(case: &Case) -> String {
         answer => answer.to_string(),
     };
     format!("{} {}", case.call.event().call(), answer)
+}
+
+/// A request that is admitted with a record in both lists.
+fn overlap(case: &Case) -> Option<String> {
+    let overlaps = match case.call.event() {
+        Event::Begin { reads, writes, .. } => reads.iter().any(|r| writes.contains(r)),
+        _ => false,
+    };
+    let admitted = matches!(made(case).0.answer, Answer::Entry { .. });
+    if !overlaps || !admitted {
+        return None;
+    }
+    Some(format!("{} of overlapping lists", answered(case)))
 }
 
 /// A promotion of an entry that got answers while it was Blocked.
@@ -177,7 +193,7 @@ fn breach(block: &[u8], broken: &Broken) -> String {
     let name = format!("{:?}", broken);
     let name = name.split_whitespace().next().unwrap_or("");
     match broken {
-        Broken::Lists { refusal, .. } => format!("{} {}", name, refusal.number()),
+        Broken::Lists { fault, .. } => format!("{} {:?}", name, fault),
         Broken::Counter { field: 0x13, .. } => format!("{} Cx", name),
         Broken::Counter { .. } => format!("{} Cs", name),
         Broken::Conflict { state, .. } => format!("{} {}", name, state.word()),

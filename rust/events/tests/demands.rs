@@ -1,11 +1,13 @@
 //! What holds after every call of every generated file: the fuel adds up, the
 //! queue stays sound, refusals leave the state, the verdicts of the plain list
-//! are those of document 01's counters and maps, and a promotion is Item 2's.
+//! are those of document 01's counters and maps, a promotion is Item 2's, and a
+//! request is Item 4's.
 
 mod common;
 
 use common::{batch, walk, Step};
-use second::{Entry, Event, State, Table};
+use events::encode::encode;
+use second::{listing, Entry, Event, State, Table};
 
 const SEEDS: u64 = 120;
 const RECORDS: usize = 256;
@@ -124,7 +126,14 @@ fn is_sound(entry: &Entry, ahead: &[Entry]) -> bool {
         State::Waiting => entry.due > 0 && !in_conflict,
         State::Blocked => request.n() > 0,
     };
-    state_fits && entry.due <= request.awaited && request.awaited <= 15
+    state_fits && lists_fit(entry) && entry.due <= request.awaited && request.awaited <= 15
+}
+
+/// Up to 8 of each, strictly rising, and no record is in both.
+fn lists_fit(entry: &Entry) -> bool {
+    let (reads, writes) = (&entry.request.reads, &entry.request.writes);
+    let fits = |list: &[u8]| list.len() <= 8 && list.windows(2).all(|pair| pair[0] < pair[1]);
+    fits(reads) && fits(writes) && reads.iter().all(|record| !writes.contains(record))
 }
 
 /// Each record's count of writers (Cx) and readers (Cs) in the queue.
@@ -163,19 +172,89 @@ impl Counters {
     }
 }
 
+/// The records that an admitted Begin only reads, and those that it writes, by
+/// their numbers: Item 4 says no more of the two lists as given.
+fn asked(step: &Step<'_>) -> Option<(Vec<u8>, Vec<u8>)> {
+    let (reads, writes) = match step.event {
+        Event::Begin { reads, writes, .. } if step.refusal().is_none() => (reads, writes),
+        _ => return None,
+    };
+    let all = || 0..=u8::MAX;
+    let written = all().filter(|record| writes.contains(record));
+    let only_read = all().filter(|record| reads.contains(record) && !writes.contains(record));
+    Some((only_read.collect(), written.collect()))
+}
+
+/// "A record in both lists ... is stored among the writes alone."
+#[test]
+fn begin_stores_what_item_4_says() {
+    let mut overlapping = 0;
+    for_each_step(|name, step| {
+        if let Some(asked) = asked(step) {
+            let last = step.after.queue.last().expect("it joined the back");
+            let request = last.request.clone();
+            assert_eq!((request.reads, request.writes), asked, "{}", name);
+            overlapping += u32::from(step.overlaps());
+        }
+    });
+    assert!(overlapping > 1_000, "only {} overlap", overlapping);
+}
+
+/// "All else uses the reduced lists": but for refusal 3, which goes by the lists
+/// as given, a Begin that gives the reduced ones does the same.
+#[test]
+fn reduced_lists_give_the_same_listing() {
+    let mut shorter = 0;
+    for (name, file) in batch(SEEDS) {
+        let mut reduced = Vec::new();
+        let refusal = walk(&file, |step| match step.refusal() {
+            Some(3) => encode(step.event, &mut reduced).expect("it came from a file"),
+            _ => add_reduced(step.event, &mut reduced),
+        });
+        if refusal.is_none() {
+            assert_eq!(listing(&reduced), listing(&file), "{}", name);
+            shorter += u32::from(reduced.len() < file.len());
+        }
+    }
+    assert!(shorter > 100, "only {} files with overlaps", shorter);
+}
+
+/// The record of a call, and of a Begin without the reads that are written.
+fn add_reduced(event: Event<'_>, out: &mut Vec<u8>) {
+    let mut only_read = Vec::new();
+    let event = match event {
+        Event::Begin {
+            tenant,
+            awaited,
+            reads,
+            writes,
+        } => {
+            only_read.extend(reads.iter().filter(|record| !writes.contains(record)));
+            Event::Begin {
+                tenant,
+                awaited,
+                reads: &only_read,
+                writes,
+            }
+        }
+        event => event,
+    };
+    encode(event, out).expect("it is no longer than it was");
+}
+
 /// "A read clashes if Cx is above 0, a write if after its own count Cx is
 /// above 1 or Cs is above 0."
 #[test]
 fn begin_says_what_the_counters_say() {
     let mut blocked = 0;
     for_each_step(|name, step| {
-        let (reads, writes) = match step.event {
-            Event::Begin { reads, writes, .. } if step.refusal().is_none() => (reads, writes),
-            _ => return,
+        let (reads, writes) = match asked(step) {
+            Some(asked) => asked,
+            None => return,
         };
         let before = Counters::of(&step.before.queue);
         let mut after = Counters::of(&step.before.queue);
-        after.count(reads, writes);
+        after.count(&reads, &writes);
         let clash = reads.iter().any(|&record| before.cx(record) > 0)
             || writes
                 .iter()

@@ -6,7 +6,7 @@ use second::listing;
 use std::fs;
 use std::path::{Path, PathBuf};
 
-const NAMES: [&str; 7] = [
+const NAMES: [&str; 8] = [
     "twelve-lines",
     "sale",
     "dry",
@@ -14,6 +14,7 @@ const NAMES: [&str; 7] = [
     "neighbour",
     "letgo",
     "early",
+    "stock",
 ];
 
 fn folder() -> PathBuf {
@@ -46,7 +47,7 @@ fn calls(text: &str) -> Vec<(&str, &str)> {
 }
 
 #[test]
-fn the_seven_are_there() {
+fn the_eight_are_there() {
     let found: Vec<String> = examples().into_iter().map(|(name, _)| name).collect();
     for name in NAMES {
         assert!(found.iter().any(|known| known == name), "{}", name);

@@ -1,4 +1,5 @@
-//! Each kind of generated file is what its name says.
+//! Each kind of generated file is what its name says; of `overlap` more is said
+//! in `overlap.rs`.
 
 mod common;
 
@@ -10,15 +11,9 @@ use std::collections::BTreeSet;
 
 const SEEDS: u64 = 96;
 
-/// How many files of a kind have a call of which `holds` is true.
+/// How many of its files have a call of which `holds` is true.
 fn files_with(kind: Kind, holds: impl Fn(&Step<'_>) -> bool) -> u64 {
-    let mut count = 0;
-    for file in files(kind, SEEDS) {
-        let mut found = false;
-        walk(&file, |step| found = found || holds(step));
-        count += u64::from(found);
-    }
-    count
+    common::files_with(kind, SEEDS, holds)
 }
 
 #[test]
@@ -85,6 +80,7 @@ fn loads_are_good_files() {
         Kind::Refusals,
         Kind::Worst,
         Kind::Early,
+        Kind::Overlap,
     ];
     for kind in good {
         for file in files(kind, SEEDS) {
@@ -208,14 +204,17 @@ fn early_files_try_what_cannot_be() {
     assert!(files_with(Kind::Early, dry) > SEEDS * 9 / 10);
 }
 
-/// Every number but 8 (no file reaches it) and 14 (which leaves no other
-/// call admitted) in most of the files.
+/// Every number but 5 (it is no longer given), 8 (no file reaches it) and 14
+/// (which leaves no other call admitted) in most of the files.
 #[test]
 fn refusals_files_refuse() {
-    for number in [1, 2, 3, 4, 5, 6, 7, 9, 10, 11, 12, 13] {
+    for number in [1, 2, 3, 4, 6, 7, 9, 10, 11, 12, 13] {
         let with = files_with(Kind::Refusals, |step| step.refusal() == Some(number));
         assert!(with > SEEDS * 3 / 4, "refusal {}: {} files", number, with);
     }
+    let overlapping = |step: &Step<'_>| step.overlaps() && step.refusal().is_none();
+    let with = files_with(Kind::Refusals, overlapping);
+    assert!(with > SEEDS / 2, "a record in both lists: {} files", with);
     let with = files_with(Kind::Refusals, |step| step.refusal() == Some(14));
     assert!(with > 0, "refusal 14");
     assert_eq!(

@@ -52,15 +52,14 @@ fn eventgen_writes_the_file_of_a_seed() {
 
 #[test]
 fn eventgen_names_its_kinds() {
-    let names = "mixed\ndeep\nscarce\nremote\nrefusals\nworst\ndamaged\nboundary\nearly\n";
+    let names = "mixed\ndeep\nscarce\nremote\nrefusals\nworst\ndamaged\nboundary\nearly\noverlap\n";
     assert_eq!(succeeded(eventgen(&["--kinds"])), names.as_bytes());
 }
 
 #[test]
 fn eventgen_names_the_kinds_when_it_is_called_wrongly() {
-    let kinds =
-        "KIND is one of: mixed, deep, scarce, remote, refusals, worst, damaged, boundary, early; \
-                 to measure with: long-scans, long-queues, long-picks, long-hot\n";
+    let kinds = "KIND is one of: mixed, deep, scarce, remote, refusals, worst, damaged, boundary, \
+                 early, overlap; to measure with: long-scans, long-queues, long-picks, long-hot\n";
     let wrong: [(&[&str], &str); 7] = [
         (&[], "usage: eventgen SEED KIND, or eventgen --kinds\n"),
         (&["1"], "usage: eventgen SEED KIND, or eventgen --kinds\n"),
@@ -85,9 +84,10 @@ fn eventgen_names_the_kinds_when_it_is_called_wrongly() {
 
 #[test]
 fn eventtext_goes_there_and_back() {
-    let text = b"open 2 2\ngrant 1 40\nbegin 1 awaited 1 reads 3 5 writes 10\nraw ff\n";
+    let text = b"open 2 2\ngrant 1 40\nbegin 1 awaited 1 reads 3 5 writes 10\n\
+                 begin 1 reads 10 3 10 writes 3 10\nraw ff\n";
     let bytes = succeeded(eventtext(&[], text));
-    assert_eq!(bytes.len(), 19 + 8 + 9 + 1);
+    assert_eq!(bytes.len(), 19 + 8 + 9 + 11 + 1);
     assert_eq!(succeeded(eventtext(&["--back"], &bytes)), text);
     assert_eq!(succeeded(eventtext(&["--back"], b"")), b"");
     assert_eq!(succeeded(eventtext(&[], b"")), b"");

@@ -68,6 +68,25 @@ no call answer burnt left
     assert_eq!(view(text), wanted);
 }
 
+/// The queue is shown as it is stored: a record in both lists is written only.
+#[test]
+fn lists_that_overlap() {
+    let text = "open 2 1\ngrant 1 40\ngrant 2 40\nbegin 1 reads 7 writes 7\n\
+                begin 2 reads 21 7 3 writes 3 7 21\nbegin 1 reads 21 7 30 writes 7 21\n";
+    let shown = view(text);
+    let last = &shown[shown.find("6 begin").expect("the last line")..];
+    let wanted = "\
+6 begin blocked:1.2 8 28
+    front 1.1 free             writes 7
+          2.1 blocked          writes 3 7 21
+          1.2 blocked reads 30 writes 7 21
+    Cx 3=1 7=3 21=2
+    Cs 30=1
+    fuel 1=28 2=32, places 1=2/2 2=1/1
+";
+    assert_eq!(last, wanted);
+}
+
 #[test]
 fn awaited_answers_and_long_names() {
     let text = "open 0 0 0 0 0 0 0 0 0 3 1\ngrant 10 40\ngrant 4 9\n\

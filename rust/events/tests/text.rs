@@ -48,6 +48,26 @@ fn each_part_of_a_begin() {
     assert_eq!(bytes("begin 1 writes 10 reads 3 5 awaited 1"), full);
 }
 
+/// A record may stand in both lists, in any order and several times: the text
+/// tells the lists as given, not as they are stored.
+#[test]
+fn lists_that_overlap() {
+    for (text, file) in [
+        ("begin 1 reads 7 writes 7\n", &[3, 0, 5, 1, 0, 1, 7, 7][..]),
+        (
+            "begin 2 reads 9 3 9 writes 9\n",
+            &[3, 0, 7, 2, 0, 3, 9, 3, 9, 9],
+        ),
+        (
+            "begin 1 awaited 1 reads 7 21 writes 7 20\n",
+            &[3, 0, 7, 1, 1, 2, 7, 21, 7, 20],
+        ),
+    ] {
+        assert_eq!(bytes(text), file, "{}", text);
+        assert_eq!(to_text(file), text);
+    }
+}
+
 #[test]
 fn layout_does_not_matter() {
     let text = "# a file\r\n\n  grant\t1   040 # fuel\r\n#\n   \npick#at once";

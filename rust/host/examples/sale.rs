@@ -1,6 +1,7 @@
 //! A sale like that of `examples/sale.txt`: a shop counts its lamps while a
-//! seller wants to sell one. `bin/host-cargo run -p damsonpouch --example sale`
-//! runs it; `examples/host/sale.c` is the same in C, and prints the same lines.
+//! seller wants to sell one, which reads the stock and writes it back.
+//! `bin/host-cargo run -p damsonpouch --example sale` runs it;
+//! `examples/host/sale.c` is the same in C, and prints the same lines.
 
 use damsonpouch::{Answer, Locks, Name, Outcome, BLOCK_LENGTH, TENANTS};
 
@@ -36,7 +37,9 @@ fn main() -> Result<(), Box<dyn std::error::Error>> {
     let count = entry(told("the shop counts its lamps", count))?;
     let book = locks.begin(SHOP, 0, &[PRICES], &[TILL]);
     let book = entry(told("and books its takings", book))?;
-    let sale = locks.begin(SELLER, 0, &[PRICES], &[LAMPS]);
+    // The sale reads the lamps and writes them back. In both lists they count as
+    // written only: two records in all.
+    let sale = locks.begin(SELLER, 0, &[LAMPS, PRICES], &[LAMPS]);
     let sale = entry(told("the seller sells a lamp", sale))?;
 
     let early = told("the seller looks, too early", locks.scan(SELLER));

@@ -54,7 +54,7 @@ pub(crate) fn begin(
 ) -> Reply {
     // SAFETY: the pointers come from slices with these lengths; the block's is
     // exclusive, so both lists lie outside it. The lists are only read, so they
-    // may overlap each other.
+    // may overlap each other in memory.
     unsafe {
         damsonpouch_begin(
             block.as_mut_ptr(),

@@ -142,9 +142,14 @@ impl<'a> Locks<'a> {
     /// together. `awaited` is the number of remote answers that the request
     /// waits for.
     ///
+    /// A record may stand in both lists. It then counts as written only, and
+    /// once in n: the entry has it among its writes alone. Each list has at most
+    /// 8 records as given, and must strictly rise once the written ones are
+    /// taken out of the reads.
+    ///
     /// The answer is the new entry: Blocked if it conflicts with an entry
     /// ahead, else Waiting if it awaits answers, and else Free. Refusals, in
-    /// this order: 15, 1 to 9.
+    /// this order: 15, 1 to 9; of these 5 is no longer given.
     ///
     /// ```
     /// # let mut block = [0; damsonpouch::BLOCK_LENGTH];
@@ -158,7 +163,9 @@ impl<'a> Locks<'a> {
     /// assert_eq!(begun.burnt, 8);
     /// assert_eq!(locks.begin(1, 2, &[7], &[]).to_string(), "waiting:1.2 4");
     /// assert_eq!(locks.begin(1, 0, &[10], &[]).to_string(), "blocked:1.3 4");
-    /// assert_eq!(locks.begin(1, 0, &[10], &[10]).to_string(), "refused:5 1");
+    /// // reads the stock, record 20, and writes it back: one record
+    /// assert_eq!(locks.begin(1, 0, &[20], &[20]).to_string(), "free:1.4 4");
+    /// assert_eq!(locks.begin(1, 0, &[], &[20, 20]).to_string(), "refused:4 1");
     /// ```
     pub fn begin(&mut self, tenant: u8, awaited: u8, reads: &[u8], writes: &[u8]) -> Outcome {
         linked::begin(self.block, tenant, awaited, reads, writes).into()

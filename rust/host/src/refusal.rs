@@ -9,7 +9,8 @@ use std::fmt;
 /// A refusal leaves the queue, the counters, the places and the serials as they
 /// were, and burns the units that the [`Outcome`](crate::Outcome) tells. Where
 /// several apply, a call gives the first in the order that `docs/CALLS.md` has.
-/// [`NotSound`](Refusal::NotSound) comes before all others.
+/// [`NotSound`](Refusal::NotSound) comes before all others. The number 5, once of
+/// a record in both lists, is no longer given and stays unused.
 ///
 /// ```
 /// use damsonpouch::Refusal;
@@ -17,7 +18,7 @@ use std::fmt;
 /// assert_eq!(Refusal::Dry.number(), 2);
 /// assert_eq!(Refusal::from_number(2), Some(Refusal::Dry));
 /// assert_eq!(Refusal::Dry.to_string(), "the tenant has no fuel");
-/// assert_eq!(Refusal::from_number(0), None);
+/// assert_eq!(Refusal::from_number(5), None);
 /// ```
 #[derive(Clone, Copy, Debug, PartialEq, Eq, Hash, PartialOrd, Ord)]
 #[non_exhaustive]
@@ -27,12 +28,12 @@ pub enum Refusal {
     /// 2, "dry": the tenant's fuel is 0. Burns 0. Not given by Finish of a Free
     /// entry.
     Dry = 2,
-    /// 3: more than 8 reads or more than 8 writes. Burns 1.
+    /// 3: more than 8 reads or more than 8 writes, as they are given. Burns 1.
     TooManyRecords = 3,
-    /// 4: reads or writes do not strictly rise. Burns 1.
+    /// 4: the writes do not strictly rise, or the reads do not, without those that
+    /// are written too. Burns 1.
     NotRising = 4,
-    /// 5: a record is in both lists. Burns 1.
-    InBothLists = 5,
+    // 5 is no longer given; its number stays unused.
     /// 6: awaited is above 15. Burns 1.
     AwaitedTooHigh = 6,
     /// 7: the tenant already holds as many places as its share. Burns 1.
@@ -61,13 +62,12 @@ pub enum Refusal {
 }
 
 impl Refusal {
-    /// Every refusal, in the order of the numbers, from 1.
-    pub const ALL: [Refusal; 15] = [
+    /// Every refusal, in the order of the numbers: 1 to 15, without 5.
+    pub const ALL: [Refusal; 14] = [
         Refusal::NoSuchTenant,
         Refusal::Dry,
         Refusal::TooManyRecords,
         Refusal::NotRising,
-        Refusal::InBothLists,
         Refusal::AwaitedTooHigh,
         Refusal::ShareHeld,
         Refusal::SerialsGiven,
@@ -80,15 +80,15 @@ impl Refusal {
         Refusal::NotSound,
     ];
 
-    /// The number in the table of refusals, 1 to 15.
+    /// The number in the table of refusals, 1 to 15, and never 5.
     pub fn number(self) -> u8 {
         self as u8
     }
 
     /// The refusal of that number, if there is one.
     pub fn from_number(number: u8) -> Option<Refusal> {
-        let before = usize::from(number).checked_sub(1)?;
-        Refusal::ALL.get(before).copied()
+        let mut all = Refusal::ALL.iter().copied();
+        all.find(|refusal| refusal.number() == number)
     }
 
     /// What it means, in one sentence without a full stop.
@@ -98,7 +98,6 @@ impl Refusal {
             Refusal::Dry => "the tenant has no fuel",
             Refusal::TooManyRecords => "more than 8 reads or more than 8 writes",
             Refusal::NotRising => "reads or writes do not strictly rise",
-            Refusal::InBothLists => "a record is in both lists",
             Refusal::AwaitedTooHigh => "more than 15 awaited answers",
             Refusal::ShareHeld => "the tenant already holds as many places as its share",
             Refusal::SerialsGiven => "the tenant has been given all 65,535 serials",

@@ -114,6 +114,102 @@ fn begin_admits_free_waiting_or_blocked() {
     );
 }
 
+/// Item 4 of document 02: "it raises Cx and not Cs, is counted once in n, and is
+/// stored among the writes alone." The lists as given, what is stored, and the
+/// price.
+#[test]
+fn a_record_in_both_lists_counts_as_written_only() {
+    type Lists = (&'static [u8], &'static [u8]);
+    let eight: &[u8] = &[30, 31, 32, 33, 34, 35, 36, 37];
+    let cases: [(Lists, Lists, u32); 7] = [
+        ((&[7], &[7]), (&[], &[7]), 4),
+        ((&[7, 7], &[7]), (&[], &[7]), 4),
+        ((&[9, 3], &[9]), (&[3], &[9]), 6),
+        ((&[7, 21], &[7]), (&[21], &[7]), 6),
+        ((&[255, 1, 255, 2], &[0, 255]), (&[1, 2], &[0, 255]), 10),
+        ((&[6, 7, 8], &[6, 7, 8]), (&[], &[6, 7, 8]), 8),
+        ((eight, eight), (&[], eight), 18),
+    ];
+    for ((reads, writes), (only_read, written), price) in cases {
+        let admitted = entry(1, 3, FREE, only_read, written);
+        let said = format!("free:1.3 {}", price);
+        // to the last unit, and with fuel to spare
+        for fuel in [price, 40] {
+            gives(
+                &base().fuel(1, fuel).bytes(),
+                |locks| locks.begin(1, 0, reads, writes),
+                &said,
+                &base()
+                    .fuel(1, fuel - price)
+                    .serials(1, 3)
+                    .with(admitted.clone())
+                    .bytes(),
+            );
+        }
+    }
+}
+
+/// 7 in both lists or written only, behind another that has it so: in every mix
+/// the second is Blocked.
+#[test]
+fn two_that_write_a_record_back() {
+    let asks: [(&[u8], &[u8]); 3] = [(&[7], &[7]), (&[], &[7]), (&[7, 7], &[7])];
+    let empty = Picture::fresh(&[2, 2]).fuel(1, 4).fuel(2, 4);
+    let first = empty
+        .clone()
+        .fuel(1, 0)
+        .serials(1, 1)
+        .with(entry(1, 1, FREE, &[], &[7]));
+    let second = first
+        .clone()
+        .fuel(2, 0)
+        .serials(2, 1)
+        .with(entry(2, 1, BLOCKED, &[], &[7]));
+    for (reads, writes) in asks {
+        gives(
+            &empty.bytes(),
+            |locks| locks.begin(1, 0, reads, writes),
+            "free:1.1 4",
+            &first.bytes(),
+        );
+        gives(
+            &first.bytes(),
+            |locks| locks.begin(2, 0, reads, writes),
+            "blocked:2.1 4",
+            &second.bytes(),
+        );
+    }
+}
+
+/// Who reads a record that another has in both lists waits; who reads what it
+/// only reads does not. Then the calls on it count the record once.
+#[test]
+fn readers_behind_a_record_in_both_lists() {
+    let mut block = Picture::fresh(&[1, 2]).fuel(1, 6).fuel(2, 20).bytes();
+    let mut locks = Locks::over(&mut block);
+    let calls: [(Call, &str); 8] = [
+        (|locks| locks.begin(1, 0, &[7, 30], &[7]), "free:1.1 6"),
+        (|locks| locks.begin(2, 1, &[7, 9], &[9]), "blocked:2.1 6"),
+        (|locks| locks.begin(2, 0, &[30], &[]), "free:2.2 4"),
+        // 1, and 3 for 1.1, 3 for 2.1, 2 for 2.2: one unit short
+        (|locks| locks.grant(1, 8), "ok 0"),
+        (|locks| locks.scan(1), "refused:9 7"),
+        (|locks| locks.finish(1, 1), "done 0"),
+        (|locks| locks.recheck(2, 1), "waiting:2.1 3"),
+        (|locks| locks.finish(2, 2), "done 0"),
+    ];
+    for (line, (call, said)) in calls.iter().enumerate() {
+        assert_eq!(call(&mut locks).to_string(), *said, "line {}", line + 1);
+    }
+    let after = Picture::fresh(&[1, 2])
+        .fuel(1, 1)
+        .fuel(2, 7)
+        .serials(1, 1)
+        .serials(2, 2)
+        .with(entry(2, 1, WAITING, &[7], &[9]).awaits(1, 1));
+    assert_eq!(locks.block(), after.bytes());
+}
+
 #[test]
 fn begin_spends_the_last_unit_and_the_last_serial() {
     let before = Picture::fresh(&[1]).fuel(1, 4).serials(1, 65_534).bytes();

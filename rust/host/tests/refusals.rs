@@ -26,15 +26,18 @@ fn charged(number: u8, call: Call) {
 
 #[test]
 fn numbers_and_meanings() {
-    for (before, refusal) in Refusal::ALL.iter().enumerate() {
-        assert_eq!(usize::from(refusal.number()), before + 1);
+    let numbers = [1, 2, 3, 4, 6, 7, 8, 9, 10, 11, 12, 13, 14, 15];
+    assert_eq!(Refusal::ALL.map(Refusal::number), numbers);
+    for refusal in &Refusal::ALL {
         assert_eq!(Refusal::from_number(refusal.number()), Some(*refusal));
         assert_eq!(refusal.to_string(), refusal.meaning());
         let error: Box<dyn std::error::Error> = Box::new(*refusal);
         assert!(!error.to_string().is_empty());
     }
-    assert_eq!(Refusal::from_number(0), None);
-    assert_eq!(Refusal::from_number(16), None);
+    // 5 is no longer given; its number stays unused
+    for number in [0, 5, 16, 255] {
+        assert_eq!(Refusal::from_number(number), None);
+    }
     assert_eq!(Refusal::NotSound.number(), 15);
 }
 
@@ -68,7 +71,7 @@ fn refusal_2_dry() {
 }
 
 #[test]
-fn refusals_3_to_6_of_the_lists() {
+fn refusals_3_4_and_6_of_the_lists() {
     charged(3, |locks| locks.begin(1, 0, &NINE, &[]));
     charged(3, |locks| locks.begin(1, 0, &[], &NINE));
     charged(3, |locks| locks.begin(1, 255, &NINE, &NINE));
@@ -78,10 +81,46 @@ fn refusals_3_to_6_of_the_lists() {
     charged(4, |locks| locks.begin(1, 0, &[], &[7, 7]));
     charged(4, |locks| locks.begin(1, 0, &[8, 7], &[]));
     charged(4, |locks| locks.begin(1, 16, &[8], &[9, 8]));
-    charged(5, |locks| locks.begin(1, 0, &[7], &[7]));
-    charged(5, |locks| locks.begin(1, 16, &[1, 2, 255], &[3, 255]));
     charged(6, |locks| locks.begin(1, 16, &[], &[7]));
     charged(6, |locks| locks.begin(1, 255, &[], &[]));
+}
+
+/// Item 4 of document 02: 3 is judged on the lists as given, and all else on the
+/// reduced ones. 5 is no longer given.
+#[test]
+fn refusals_of_lists_with_a_record_in_both() {
+    // without the written ones there would be 8 reads, one, and none
+    charged(3, |locks| locks.begin(1, 0, &NINE, &[54]));
+    charged(3, |locks| locks.begin(1, 0, &NINE, &NINE[..8]));
+    charged(3, |locks| locks.begin(1, 0, &[7; 9], &[7]));
+    charged(4, |locks| locks.begin(1, 0, &[3, 9, 3], &[9]));
+    charged(4, |locks| locks.begin(1, 0, &[9, 5, 9, 3], &[9]));
+    charged(4, |locks| locks.begin(1, 0, &[7], &[7, 7]));
+    charged(4, |locks| locks.begin(1, 0, &[7, 7], &[7, 7]));
+    charged(4, |locks| locks.begin(1, 0, &[3, 9], &[9, 3]));
+    charged(6, |locks| locks.begin(1, 16, &[7], &[7]));
+    charged(6, |locks| locks.begin(1, 16, &[1, 255, 2], &[3, 255]));
+    // the share is held, the serials are given, and the fuel is one unit short:
+    // the price of 7 and 9 is 6
+    gives(
+        &base().bytes(),
+        |locks| locks.begin(2, 0, &[7], &[7]),
+        "refused:7 1",
+        &base().fuel(2, 29).bytes(),
+    );
+    let all = base().serials(1, 65_535);
+    gives(
+        &all.bytes(),
+        |locks| locks.begin(1, 0, &[7], &[7]),
+        "refused:8 1",
+        &all.clone().fuel(1, 39).bytes(),
+    );
+    gives(
+        &base().fuel(1, 5).bytes(),
+        |locks| locks.begin(1, 0, &[9, 7, 9], &[9]),
+        "refused:9 1",
+        &base().fuel(1, 4).bytes(),
+    );
 }
 
 #[test]

@@ -125,7 +125,7 @@ impl Ahead {
         if !rises(reads) || !rises(writes) || unused.iter().any(|&byte| byte != 0) {
             return false;
         }
-        // a write that the entry itself reads is refused, so its own reads may join the map at once
+        // a stored entry writes nothing that it reads, so its own reads may join the map at once
         let mut own = Map::default();
         let mut clash = false;
         for &record in reads {

@@ -4,7 +4,8 @@
 //! answers with a [`Reply`].
 //!
 //! "Document 01" is the page of scope and precise rules; the block is that of
-//! Item 1 of the change requests, with Item 2's rule of promotion.
+//! Item 1 of the change requests, with Item 2's rule of promotion and Item 4's
+//! reduced lists.
 
 mod check;
 mod layout;
@@ -125,6 +126,12 @@ pub fn grant(block: &mut [u8], tenant: u8, amount: u32) -> Reply {
 pub fn begin(block: &mut [u8], tenant: u8, awaited: u8, reads: &[u8], writes: &[u8]) -> Reply {
     with(block, |block| {
         charged(block, tenant, |block, meter| {
+            // "The limits of 8 apply to the lists as given."
+            if reads.len() > MOST_RECORDS || writes.len() > MOST_RECORDS {
+                return Err(3);
+            }
+            let mut kept = [0; MOST_RECORDS];
+            let reads = only_read(&mut kept, reads, writes);
             let price = admissible(block, tenant, *meter, awaited, reads, writes)?;
             let blocked = clashes(block, reads, writes);
             meter.fuel -= price;
@@ -259,7 +266,21 @@ fn charged(
     reply
 }
 
-/// Refusals 3 to 9 of a Begin in number order, or the price.
+/// The reads that are not written, in their order, put at the front of `kept`: "A
+/// record in both lists shall count as written only" (Item 4).
+fn only_read<'a>(kept: &'a mut [u8; MOST_RECORDS], reads: &[u8], writes: &[u8]) -> &'a [u8] {
+    let mut count = 0;
+    for record in reads {
+        if !writes.contains(record) {
+            kept[count] = *record;
+            count += 1;
+        }
+    }
+    &kept[..count]
+}
+
+/// Refusals 4 to 9 of a Begin with the reduced lists in number order, or the
+/// price. "5 is no longer given; its number stays unused" (Item 4).
 fn admissible(
     block: &Block,
     tenant: u8,
@@ -268,14 +289,8 @@ fn admissible(
     reads: &[u8],
     writes: &[u8],
 ) -> Result<u32, u8> {
-    if reads.len() > MOST_RECORDS || writes.len() > MOST_RECORDS {
-        return Err(3);
-    }
     if !rises(reads) || !rises(writes) {
         return Err(4);
-    }
-    if reads.iter().any(|record| writes.contains(record)) {
-        return Err(5);
     }
     if awaited > MOST_AWAITED {
         return Err(6);

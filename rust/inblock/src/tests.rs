@@ -106,7 +106,12 @@ fn call_both(random: &mut Random, block: &mut Block, table: &mut Table) -> (Repl
             } else {
                 random.byte_between(0, 16)
             };
-            let (reads, writes) = (some_list(random), some_list(random));
+            let (mut reads, writes) = (some_list(random), some_list(random));
+            // Written records among the reads, now and then more than 8 in all.
+            if random.chance(40) {
+                let more = random.between(1, 6);
+                random.strew(&mut reads, &writes, more);
+            }
             (
                 begin(block, tenant, awaited, &reads, &writes),
                 table.begin(tenant, awaited, &reads, &writes),
@@ -261,6 +266,58 @@ fn a_record_in_both_lists_is_not_sound() {
     block[CS + 2] -= 1;
     block[CS + 3] += 1;
     assert!(!sound(&block));
+}
+
+/// Item 4, with the bytes of the entry, and the counters Cx and Cs of 3, 7 and 9.
+#[test]
+fn a_record_in_both_lists_counts_as_written_only() {
+    let lists = |reads: &[u8], writes: &[u8]| {
+        let mut records = [0; 2 + 16];
+        records[..2].copy_from_slice(&[reads.len() as u8, writes.len() as u8]);
+        records[2..2 + reads.len()].copy_from_slice(reads);
+        records[2 + reads.len()..][..writes.len()].copy_from_slice(writes);
+        records
+    };
+    type Given = (&'static [u8], &'static [u8]);
+    let cases: [(Given, [u8; 18], u32, [u8; 6]); 4] = [
+        ((&[7], &[7]), lists(&[], &[7]), 4, [0, 1, 0, 0, 0, 0]),
+        ((&[7, 7], &[7]), lists(&[], &[7]), 4, [0, 1, 0, 0, 0, 0]),
+        ((&[9, 3], &[9]), lists(&[3], &[9]), 6, [0, 0, 1, 1, 0, 0]),
+        (
+            (&[9, 7, 9], &[3, 9]),
+            lists(&[7], &[3, 9]),
+            8,
+            [1, 0, 1, 0, 1, 0],
+        ),
+    ];
+    for ((reads, writes), stored, price, counters) in cases {
+        let mut block = [0; BLOCK_BYTES];
+        open(&mut block, &[4; 16]);
+        grant(&mut block, 1, price - 1);
+        let refused = begin(&mut block, 1, 0, reads, writes);
+        assert_eq!(refused, Reply::refused(9, 1));
+        grant(&mut block, 1, 2);
+        let reply = begin(&mut block, 1, 0, reads, writes);
+        assert_eq!((reply.kind, reply.state, reply.burnt), (NAMED, FREE, price));
+        assert_eq!(block[ENTRIES + NR..ENTRIES + ENTRY_BYTES], stored);
+        let counted = [CX + 3, CX + 7, CX + 9, CS + 3, CS + 7, CS + 9].map(|at| block[at]);
+        assert_eq!(counted, counters);
+        assert!(sound(&block));
+        // A second one with the same lists is blocked by the first.
+        grant(&mut block, 2, price);
+        assert_eq!(begin(&mut block, 2, 0, reads, writes).state, BLOCKED);
+    }
+    let mut block = [0; BLOCK_BYTES];
+    open(&mut block, &[4; 16]);
+    grant(&mut block, 1, 100);
+    let before = block;
+    for (number, reads, writes) in [(4, &[3, 9, 3][..], &[9][..]), (3, &[7; 9], &[7])] {
+        block = before;
+        assert_eq!(
+            begin(&mut block, 1, 0, reads, writes),
+            Reply::refused(number, 1)
+        );
+    }
 }
 
 /// A promotion goes by the answers still due, whatever was awaited.

@@ -38,10 +38,14 @@ fn begin(random: &mut Random, tenant: u8, top: u8) -> Call {
         _ => random.byte_between(0, 16),
     };
     let most = random.one_of(&[2, 4, 8, 8, 8, 9]);
-    let reads = list(random, most, top);
-    let mut writes = list(random, most, top);
-    if random.chance(95) {
-        writes.retain(|record| !reads.contains(record));
+    let mut reads = list(random, most, top);
+    let writes = list(random, most, top);
+    // a record in both lists counts as written only, wherever it stands in the reads
+    if random.chance(50) {
+        reads.retain(|record| !writes.contains(record));
+    } else {
+        let more = random.between(0, 3);
+        random.strew(&mut reads, &writes, more);
     }
     Call::Begin(tenant, awaited, reads, writes)
 }

@@ -4,14 +4,14 @@ use crate::request::State;
 use std::fmt;
 
 /// The numbers of document 01's table, "Numbers a caller may get back", and 15
-/// of Item 1: "15 for a block not sound".
+/// of Item 1: "15 for a block not sound". By Item 4 "5 is no longer given; its
+/// number stays unused".
 #[derive(Clone, Copy, Debug, PartialEq, Eq)]
 pub enum Refusal {
     NoSuchTenant = 1,
     Dry = 2,
     TooManyRecords = 3,
     NotRising = 4,
-    InBothLists = 5,
     AwaitedTooHigh = 6,
     ShareHeld = 7,
     SerialsGiven = 8,

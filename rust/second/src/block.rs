@@ -8,7 +8,9 @@
 use crate::answer::{Answer, Outcome, Refusal};
 use crate::listing::apply;
 use crate::reader::Event;
-use crate::request::{Entry, Request, State, MOST_AWAITED, MOST_READS, MOST_WRITES};
+use crate::request::{
+    share_a_record, strictly_rising, Entry, Request, State, MOST_AWAITED, MOST_READS, MOST_WRITES,
+};
 use crate::table::{Meter, Table, MOST_FUEL, MOST_PLACES, TENANTS};
 use std::fmt;
 
@@ -31,7 +33,8 @@ const LISTS_AT: usize = 8;
 const LIST_BYTES: usize = 16;
 
 /// The clauses of a sound block in the item's words and order, the eighth as
-/// Item 2 leaves it; `Broken::clause` counts from 1.
+/// Item 2 leaves it. The ninth is "lists keep refusals 3 to 5", of which Item 4
+/// gives 5 no more. `Broken::clause` counts from 1.
 pub const CLAUSES: [&str; 11] = [
     "heads, lengths and unused bytes are as above",
     "shares sum to at most 64",
@@ -41,7 +44,7 @@ pub const CLAUSES: [&str; 11] = [
     "a tenant's serials rise from front to back, from 1 to those given",
     "states are 0 to 2",
     "a Free entry has nothing due, a Waiting one an answer due, a Blocked one n above 0",
-    "lists keep refusals 3 to 5",
+    "lists keep refusals 3 and 4, and no record is in both",
     "Cx and Cs are the queue's",
     "no Free or Waiting entry conflicts with one ahead",
 ];
@@ -134,10 +137,9 @@ pub enum Broken {
     BlockedOnNothing {
         at: Place,
     },
-    /// The first of refusals 3 to 5 that a Begin with these lists would meet.
     Lists {
         at: Place,
-        refusal: Refusal,
+        fault: ListFault,
     },
     Counter {
         field: u8,
@@ -152,6 +154,29 @@ pub enum Broken {
         ahead: Place,
         record: u8,
     },
+}
+
+/// What is wrong with the lists of an entry, the first in this order. They are
+/// stored lists, so none of their records is taken out before they are judged.
+#[derive(Clone, Copy, Debug, PartialEq, Eq)]
+pub enum ListFault {
+    /// What refusal 3 forbids.
+    TooManyRecords,
+    /// What refusal 4 forbids.
+    NotRising,
+    /// Item 4: a record in both lists of a Begin "is stored among the writes
+    /// alone".
+    InBothLists,
+}
+
+impl fmt::Display for ListFault {
+    fn fmt(&self, out: &mut fmt::Formatter<'_>) -> fmt::Result {
+        out.write_str(match self {
+            ListFault::TooManyRecords => "more than 8 reads or more than 8 writes",
+            ListFault::NotRising => "reads or writes not strictly rising",
+            ListFault::InBothLists => "a record in both lists",
+        })
+    }
 }
 
 impl Broken {
@@ -244,13 +269,7 @@ impl fmt::Display for Broken {
             Broken::BlockedOnNothing { at } => {
                 write!(out, "{} is Blocked and has no records", at)
             }
-            Broken::Lists { at, refusal } => write!(
-                out,
-                "{} has lists that refusal {} forbids: {}",
-                at,
-                refusal.number(),
-                forbidden(*refusal)
-            ),
+            Broken::Lists { at, fault } => write!(out, "{} has {}", at, fault),
             Broken::Counter {
                 field,
                 record,
@@ -278,14 +297,6 @@ impl fmt::Display for Broken {
                 ahead
             ),
         }
-    }
-}
-
-fn forbidden(refusal: Refusal) -> &'static str {
-    match refusal {
-        Refusal::TooManyRecords => "more than 8 reads or more than 8 writes",
-        Refusal::NotRising => "reads or writes not strictly rising",
-        _ => "a record in both lists",
     }
 }
 
@@ -493,15 +504,25 @@ impl Slot<'_> {
         }
     }
 
-    /// The request with its lists, or the first of refusals 3 to 5. Reads stand
-    /// before writes. The awaited answers are known to be few enough for 6.
-    fn request(&self) -> Result<Request, Refusal> {
+    /// The request with its lists as they are stored, or what is wrong with
+    /// them. Reads stand before writes.
+    fn request(&self) -> Result<Request, ListFault> {
         if self.read_count() > MOST_READS || self.write_count() > MOST_WRITES {
-            return Err(Refusal::TooManyRecords);
+            return Err(ListFault::TooManyRecords);
         }
         let records = &self.bytes[LISTS_AT..LISTS_AT + self.n()];
         let (reads, writes) = records.split_at(self.read_count());
-        Request::checked(self.awaited(), reads, writes)
+        if !strictly_rising(reads) || !strictly_rising(writes) {
+            return Err(ListFault::NotRising);
+        }
+        if share_a_record(reads, writes) {
+            return Err(ListFault::InBothLists);
+        }
+        Ok(Request {
+            awaited: self.awaited(),
+            reads: reads.to_vec(),
+            writes: writes.to_vec(),
+        })
     }
 }
 
@@ -617,12 +638,13 @@ impl Fields<'_> {
         Ok(())
     }
 
-    /// "lists keep refusals 3 to 5".
+    /// "lists keep refusals 3 to 5": what 5 forbade is no longer refused at
+    /// Begin, and still never stored.
     fn lists(&self) -> Result<(), Broken> {
         for slot in self.used() {
-            if let Err(refusal) = slot.request() {
+            if let Err(fault) = slot.request() {
                 let at = slot.place();
-                return Err(Broken::Lists { at, refusal });
+                return Err(Broken::Lists { at, fault });
             }
         }
         Ok(())

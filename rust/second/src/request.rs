@@ -1,5 +1,6 @@
 //! What a Begin asks for, when two requests conflict, and the queue entry that
-//! an admitted request becomes.
+//! an admitted request becomes. A Begin is called with its lists as given; a
+//! request has the reduced ones.
 
 use crate::answer::Refusal;
 
@@ -7,6 +8,7 @@ pub const MOST_READS: usize = 8;
 pub const MOST_WRITES: usize = 8;
 pub const MOST_AWAITED: u8 = 15;
 
+/// No record is in both lists of a request that is queued.
 #[derive(Clone, Debug, PartialEq, Eq)]
 pub struct Request {
     pub awaited: u8,
@@ -15,25 +17,34 @@ pub struct Request {
 }
 
 impl Request {
-    /// The request as the caller gives it, or the first of refusals 3 to 6.
-    pub fn checked(awaited: u8, reads: &[u8], writes: &[u8]) -> Result<Request, Refusal> {
+    /// The request that a caller asks for with these lists as given, or the
+    /// first of refusals 3, 4 and 6.
+    pub fn asked(awaited: u8, reads: &[u8], writes: &[u8]) -> Result<Request, Refusal> {
+        // "The limits of 8 apply to the lists as given."
         if reads.len() > MOST_READS || writes.len() > MOST_WRITES {
             return Err(Refusal::TooManyRecords);
         }
-        if !strictly_rising(reads) || !strictly_rising(writes) {
+        // "All else uses the reduced lists."
+        let request = Request::reduced(awaited, reads, writes);
+        if !strictly_rising(&request.reads) || !strictly_rising(&request.writes) {
             return Err(Refusal::NotRising);
-        }
-        if share_a_record(reads, writes) {
-            return Err(Refusal::InBothLists);
         }
         if awaited > MOST_AWAITED {
             return Err(Refusal::AwaitedTooHigh);
         }
-        Ok(Request {
+        Ok(request)
+    }
+
+    /// Item 4: "A record in both lists shall count as written only: it ... is
+    /// counted once in n, and is stored among the writes alone." The reads that
+    /// are not written keep their order, and the writes are as given.
+    pub fn reduced(awaited: u8, reads: &[u8], writes: &[u8]) -> Request {
+        let only_read = reads.iter().filter(|record| !writes.contains(record));
+        Request {
             awaited,
-            reads: reads.to_vec(),
+            reads: only_read.copied().collect(),
             writes: writes.to_vec(),
-        })
+        }
     }
 
     /// "n is an entry's number of records, reads and writes together."
@@ -50,11 +61,11 @@ impl Request {
     }
 }
 
-fn strictly_rising(records: &[u8]) -> bool {
+pub(crate) fn strictly_rising(records: &[u8]) -> bool {
     records.windows(2).all(|pair| pair[0] < pair[1])
 }
 
-fn share_a_record(some: &[u8], others: &[u8]) -> bool {
+pub(crate) fn share_a_record(some: &[u8], others: &[u8]) -> bool {
     some.iter().any(|record| others.contains(record))
 }
 

@@ -105,7 +105,7 @@ impl Table {
         }
     }
 
-    /// Refusals 1 to 9 in number order.
+    /// Refusals 1 to 9 in number order; Item 4: "5 is no longer given".
     fn admissible(
         &self,
         tenant: u8,
@@ -114,7 +114,7 @@ impl Table {
         writes: &[u8],
     ) -> Result<Request, Refusal> {
         let meter = self.meters[self.fuelled_seat(tenant)?];
-        let request = Request::checked(awaited, reads, writes)?;
+        let request = Request::asked(awaited, reads, writes)?;
         if self.places_held(tenant) >= usize::from(meter.share) {
             return Err(Refusal::ShareHeld);
         }

@@ -1,4 +1,5 @@
-//! The bench examples E1 to E10 of document 01.
+//! The bench examples E1 to E10 of document 01, the second half of E6 as Item 4
+//! leaves it.
 
 mod common;
 
@@ -66,7 +67,9 @@ fn e5_both_lists_empty() {
 fn e6_a_record_twice() {
     let mut table = with_fuel(100);
     assert_eq!(said(table.begin(1, 0, &[], &[7, 7])), "refused:4 1");
-    assert_eq!(said(table.begin(1, 0, &[7], &[7])), "refused:5 1");
+    assert_eq!(said(table.begin(1, 0, &[7], &[7])), "free:1.1 4");
+    assert_eq!(table.fuel(1), Some(100 - 1 - 4));
+    assert_eq!((cx(&table, 7), cs(&table, 7)), (1, 0));
 }
 
 #[test]

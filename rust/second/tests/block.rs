@@ -1,12 +1,12 @@
 //! The block of Item 1, byte by byte: each clause of a sound block kept, broken
-//! and named (the eighth as Item 2 has it), and the calls on blocks that are sound
-//! or not.
+//! and named (the eighth as Item 2 has it), the calls on blocks that are sound
+//! or not, and what Item 4 stores.
 
 mod common;
 
 use common::{burning, busy, said};
-use second::block::{call, read, write, Broken, Place, BYTES, CLAUSES};
-use second::{apply, Answer, Event, Refusal, State, Table};
+use second::block::{call, read, write, Broken, ListFault, Place, BYTES, CLAUSES};
+use second::{apply, Answer, Event, State, Table};
 
 /// The block of `busy`, put down by hand. The fields begin at 0, 19, 118, 377
 /// and 636, their bodies 3 bytes later.
@@ -389,9 +389,9 @@ fn clause_8_states_and_what_is_due() {
 
 #[test]
 fn clause_9_lists() {
-    let lists = |refusal| Broken::Lists {
+    let lists = |fault| Broken::Lists {
         at: entry(3, 2, 1),
-        refusal,
+        fault,
     };
     // Eight reads and eight writes: reads 30 to 37, writes 10 and 40 to 46.
     assert_sound(&[
@@ -401,8 +401,7 @@ fn clause_9_lists() {
         (380 + 11, &[0]),
         (380 + 30, &[1; 8]),
     ]);
-    let words = "entry 3 (2.1) has lists that refusal 3 forbids: \
-                 more than 8 reads or more than 8 writes";
+    let words = "entry 3 (2.1) has more than 8 reads or more than 8 writes";
     // Nine reads, 30 to 38, and the write of 10.
     assert_broken(
         &[
@@ -411,37 +410,48 @@ fn clause_9_lists() {
             (380 + 30, &[1; 9]),
         ],
         9,
-        lists(Refusal::TooManyRecords),
+        lists(ListFault::TooManyRecords),
         words,
     );
     // More than there are bytes for.
     assert_broken(
         &[(THIRD + 7, &[255])],
         9,
-        lists(Refusal::TooManyRecords),
+        lists(ListFault::TooManyRecords),
         words,
     );
-    let words = "entry 3 (2.1) has lists that refusal 4 forbids: \
-                 reads or writes not strictly rising";
+    let words = "entry 3 (2.1) has reads or writes not strictly rising";
     // Reads 11 and 11; then reads 12 and 11.
     assert_broken(
         &[(THIRD + 6, &[2, 1, 11, 11, 10]), (380 + 11, &[2])],
         9,
-        lists(Refusal::NotRising),
+        lists(ListFault::NotRising),
         words,
     );
     assert_broken(
         &[(THIRD + 6, &[2, 1, 12, 11, 10]), (380 + 11, &[1, 1])],
         9,
-        lists(Refusal::NotRising),
+        lists(ListFault::NotRising),
         words,
     );
+    // Stored lists are judged as they are: reads 10 and 10 would rise without
+    // the written one.
     assert_broken(
-        &[(THIRD + 6, &[2, 1, 10, 11, 10]), (380 + 10, &[1, 1])],
+        &[(THIRD + 6, &[2, 1, 10, 10, 10]), (380 + 10, &[2, 0])],
         9,
-        lists(Refusal::InBothLists),
-        "entry 3 (2.1) has lists that refusal 5 forbids: a record in both lists",
+        lists(ListFault::NotRising),
+        words,
     );
+    let words = "entry 3 (2.1) has a record in both lists";
+    // Reads 10 and 11, then 10 alone; then reads 11 and writes 10 and 11.
+    let both: [Change<'_>; 3] = [
+        &[(THIRD + 6, &[2, 1, 10, 11, 10]), (380 + 10, &[1, 1])],
+        &[(THIRD + 6, &[1, 1, 10, 10]), (380 + 10, &[1, 0])],
+        &[(THIRD + 6, &[1, 2, 11, 10, 11]), (121 + 11, &[1])],
+    ];
+    for change in both {
+        assert_broken(change, 9, lists(ListFault::InBothLists), words);
+    }
 }
 
 #[test]
@@ -684,6 +694,68 @@ fn calls_change_the_bytes_they_should() {
     assert_eq!(said(call(&mut block, finish(1, 2))), "done 0");
     assert_eq!(said(call(&mut block, Event::Pick)), "waiting:2.1 0");
     assert_eq!(block[640..650], [2, 0, 1, 1, 1, 1, 1, 1, 11, 10]);
+}
+
+/// Item 4: "it raises Cx and not Cs, is counted once in n, and is stored among
+/// the writes alone." Tenant 3 has fuel 100 and asks for 30 to 33.
+#[test]
+fn a_begin_stores_the_reduced_lists() {
+    let begin = |reads, writes| Event::Begin {
+        tenant: 3,
+        awaited: 0,
+        reads,
+        writes,
+    };
+    let fourth = 712;
+    let (count, serial): (Change<'_>, Change<'_>) = (&[(639, &[4])], &[(39, &[1])]);
+    let cases: [(Event<'_>, &str, Change<'_>); 4] = [
+        (
+            begin(&[30], &[30]),
+            "free:3.1 4",
+            &[
+                (37, &[96]),
+                (121 + 30, &[1]),
+                (fourth, &[3, 0, 1, 0, 0, 0, 0, 1, 30]),
+            ],
+        ),
+        (
+            begin(&[30, 31, 32], &[30, 32]),
+            "free:3.1 8",
+            &[
+                (37, &[92]),
+                (121 + 30, &[1, 0, 1]),
+                (380 + 31, &[1]),
+                (fourth, &[3, 0, 1, 0, 0, 0, 1, 2, 31, 30, 32]),
+            ],
+        ),
+        (
+            begin(&[33, 33, 30, 33, 31], &[33]),
+            "free:3.1 8",
+            &[
+                (37, &[92]),
+                (121 + 33, &[1]),
+                (380 + 30, &[1, 1]),
+                (fourth, &[3, 0, 1, 0, 0, 0, 2, 1, 30, 31, 33]),
+            ],
+        ),
+        // 10 is written by 1.1 and 2.1, so that this one is Blocked.
+        (
+            begin(&[10, 30], &[10]),
+            "blocked:3.1 6",
+            &[
+                (37, &[94]),
+                (121 + 10, &[3]),
+                (380 + 30, &[1]),
+                (fourth, &[3, 0, 1, 2, 0, 0, 1, 1, 30, 10]),
+            ],
+        ),
+    ];
+    for (event, answer, change) in cases {
+        let mut block = busy_block();
+        assert_eq!(said(call(&mut block, event)), answer);
+        assert_eq!(block, changed(&[count, serial, change].concat()));
+        assert!(read(&block).is_ok());
+    }
 }
 
 /// Item 2: what is still due decides, and the other bytes of the entry stay.

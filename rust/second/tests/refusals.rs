@@ -1,5 +1,5 @@
-//! The refusals 1 to 14 of document 01: when they are given, what they burn,
-//! what they leave, and which comes first.
+//! The refusals 1 to 14 of document 01, without 5, which Item 4 gives no more:
+//! when they are given, what they burn, what they leave, and which comes first.
 
 mod common;
 
@@ -53,12 +53,60 @@ fn no_4_not_rising() {
     }
 }
 
+/// Item 4: "The limits of 8 apply to the lists as given."
 #[test]
-fn no_5_in_both_lists() {
+fn no_3_is_judged_on_the_lists_as_given() {
     let mut table = busy();
-    assert_refused(&mut table, 1, (5, 1), |table| {
-        table.begin(1, 0, &[3, 7], &[5, 7])
+    // Without the written ones they would be 1, 8 and no reads.
+    let first: Vec<u8> = (1..=8).collect();
+    for (reads, writes) in [(&NINE[..], &first[..]), (&NINE, &[5]), (&[7; 9], &[7])] {
+        assert_refused(&mut table, 1, (3, 1), |table| {
+            table.begin(1, 0, reads, writes)
+        });
+    }
+    assert_refused(&mut table, 1, (3, 1), |table| {
+        table.begin(1, 0, &NINE, &NINE)
     });
+    // Eight of each are 16 names of 8 records.
+    assert_eq!(said(table.begin(1, 0, &first, &first)), "free:1.3 18");
+}
+
+/// Item 4: "All else uses the reduced lists." Writes stay as given.
+#[test]
+fn no_4_is_judged_on_the_reduced_lists() {
+    let mut table = busy();
+    let bad: [(&[u8], &[u8]); 7] = [
+        (&[3, 9, 3], &[9]),
+        (&[5, 9, 3], &[9]),
+        (&[9, 3, 3], &[9]),
+        (&[7, 7], &[8]),
+        (&[7, 7], &[7, 7]),
+        (&[7], &[7, 7]),
+        (&[3, 9], &[9, 3]),
+    ];
+    for (reads, writes) in bad {
+        assert_refused(&mut table, 1, (4, 1), |table| {
+            table.begin(1, 0, reads, writes)
+        });
+    }
+}
+
+/// What was 5's own case is admitted, or meets a later number.
+#[test]
+fn no_5_is_no_longer_given() {
+    let both: (&[u8], &[u8]) = (&[3, 7], &[5, 7]);
+    let begin = |table: &mut Table, tenant, awaited| table.begin(tenant, awaited, both.0, both.1);
+    let mut table = busy();
+    assert_refused(&mut table, 1, (6, 1), |table| begin(table, 1, 16));
+    assert_refused(&mut table, 4, (7, 1), |table| begin(table, 4, 0));
+    table.meters[2].serials = 65_535;
+    assert_refused(&mut table, 3, (8, 1), |table| begin(table, 3, 0));
+    // Three records, so that the price is 8 and not 10.
+    table.meters[0].fuel = 7;
+    assert_refused(&mut table, 1, (9, 1), |table| begin(table, 1, 0));
+    table.meters[0].fuel = 8;
+    assert_eq!(said(begin(&mut table, 1, 0)), "free:1.3 8");
+    assert_eq!(table.fuel(1), Some(0));
 }
 
 #[test]
@@ -185,9 +233,9 @@ fn no_14_bad_shares() {
     }
 }
 
-/// "Begin takes 1 to 9 in number order." Each call below meets its number and
-/// the later ones too, as far as they can meet: an unsound tenant has no tank,
-/// and a dry one, for whom every price is too high, is 2's own case.
+/// "Begin takes 1 to 9 in number order", without 5. Each call below meets its
+/// number and the later ones too, as far as they can meet: an unsound tenant has
+/// no tank, and a dry one, for whom every price is too high, is 2's own case.
 #[test]
 fn order_of_begin() {
     // Tenant 1: share used up, all serials given, one unit of fuel.
@@ -207,10 +255,11 @@ fn order_of_begin() {
     begin((1, 0), 17, 0, 16, &falling, &falling);
     begin((2, 0), 1, 0, 16, &falling, &falling);
     begin((3, 1), 1, 1, 16, &falling, &[9, 9]);
-    begin((4, 1), 1, 1, 16, &[7, 7], &[7]);
+    begin((4, 1), 1, 1, 16, &[7, 7], &[8]);
     begin((4, 1), 1, 1, 16, &[7], &[7, 7]);
-    begin((5, 1), 1, 1, 16, &[7], &[7]);
+    begin((6, 1), 1, 1, 16, &[7], &[7]);
     begin((6, 1), 1, 1, 16, &[], &[7]);
+    begin((7, 1), 1, 1, 15, &[7, 7], &[7]);
     begin((7, 1), 1, 1, 15, &[], &[7]);
     // Tenant 2 has a place left.
     begin((8, 1), 2, 1, 15, &[], &[7]);

@@ -34,6 +34,14 @@ impl Step<'_> {
         }
     }
 
+    /// Whether it is a Begin with a record in both lists as given.
+    pub fn overlaps(&self) -> bool {
+        match self.event {
+            Event::Begin { reads, writes, .. } => reads.iter().any(|r| writes.contains(r)),
+            _ => false,
+        }
+    }
+
     /// The state that the answer tells.
     pub fn answered_state(&self) -> Option<State> {
         match self.outcome.answer {
@@ -74,6 +82,18 @@ pub fn walk(file: &[u8], mut see: impl FnMut(&Step<'_>)) -> Option<FileRefusal> 
         });
     }
     None
+}
+
+/// How many files of a kind, from seeds 0 on, have a call of which `holds` is
+/// true.
+pub fn files_with(kind: Kind, seeds: u64, holds: impl Fn(&Step<'_>) -> bool) -> u64 {
+    let mut count = 0;
+    for file in files(kind, seeds) {
+        let mut found = false;
+        walk(&file, |step| found = found || holds(step));
+        count += u64::from(found);
+    }
+    count
 }
 
 /// Runs a program with this input.

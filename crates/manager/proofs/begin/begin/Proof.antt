@@ -1,6 +1,6 @@
 -- The places held are counted as far as the share. What is told from the numbers is the law book's refusal; else the serial is
 -- given and the price paid, the counters rise and tell the verdict, and the entry joins the back.
-use Prim.Native.Nat.{ℕ, _≤_, _<_, _-_, _+_}
+use Prim.Native.Nat.{_≤_, _<_, _-_, _+_, _*_}
 use native.Mathlib.Omega.{arith}
 use mathlib.Core.Path.{_≡_, sym, ap, _∙_}
 use mathlib.Core.Bool.{true, false}
@@ -8,7 +8,7 @@ use mathlib.Core.Logic.{⊎-elim}
 use lib.Dec.{leb}
 use lib.ListN.{take, drop}
 use borrow.Author.Tests.{eq-eqb, ne-eqb, le-leb}
-use Rattle.rules.specs.Request.{Request, requested, size}
+use Rattle.rules.specs.Request.{Request, requested, reduced, size}
 use Rattle.rules.specs.Table.{Meter as LawMeter, isTenant, meterOf, spent, numbered, placesOf}
 use Rattle.rules.specs.Prices.{clause9, admission}
 use Rattle.rules.specs.Refusals.{firstOf, beginRows}
@@ -18,7 +18,7 @@ use Rattle.rules.proofs.Meters.{tenant-range}
 use Rattle.rules.proofs.Prices.{admission-price}
 use Rattle.rules.proofs.Refusals.{stranger}
 use Rattle.meter.specs.View.{meterView}
-use Rattle.entry.specs.Entry.{request}
+use Rattle.entry.specs.Entry.{request, withSerial, Stands}
 use Rattle.entry.proofs.Typed.{Lists, entry-lists, few-take}
 use Rattle.queue.proofs.Views.{places-step, places-end}
 use Rattle.manager.specs.State.{view, Did}
@@ -35,13 +35,12 @@ use Rattle.manager.proofs.begin.begin.Reads as reads
 use Rattle.manager.proofs.begin.begin.Lts as lts
 use Rattle.counters.proofs.raise.Reads as raise-reads
 use Rattle.entry.proofs.few.Reads as few-reads
-use Rattle.entry.proofs.made.Reads as made-reads
+use Rattle.entry.proofs.numbered.Reads as numbered-reads-2
 use Rattle.entry.proofs.named.Reads as named-reads
 use Rattle.manager.proofs.begin.admitted.Reads as admitted-reads
 use Rattle.manager.proofs.begin.price.Reads as price-reads
-use Rattle.manager.proofs.begin.refusal.Reads as refusal-reads
+use Rattle.manager.proofs.begin.judge.Reads as judge-reads
 use Rattle.manager.proofs.refusal.billed.Reads as billed-reads
-use Rattle.manager.proofs.tenants.is_tenant.Reads as is-tenant-reads
 use Rattle.manager.proofs.meters.meter_of.Reads as meter-of-reads
 use Rattle.meter.proofs.charged.Reads as charged-reads
 use Rattle.meter.proofs.numbered.Reads as numbered-reads
@@ -61,8 +60,8 @@ read-meter a = a .before .before
 abbrev begun : tie.At-loop Inv-loop μ-loop → tie.Start Inv-loop μ-loop
 begun a = read-meter a .before .before .before .before
 
-abbrev counted : tie.After-refusal Inv-loop μ-loop → tie.Left-loop Inv-loop μ-loop
-counted c = c .before .before
+abbrev counted : tie.After-judge Inv-loop μ-loop → tie.Left-loop Inv-loop μ-loop
+counted c = c .before
 
 abbrev asks : tie.Start Inv-loop μ-loop → Request
 asks s = asked (view (s .args .s)) (s .args .who) (s .args .awaited) (s .args .reads .now) (s .args .writes .now)
@@ -85,13 +84,13 @@ full-is c =
     (λ w. let more : share ≤ placesOf q (s .args .who) = omega (arith, a .loop .inv .2, w .1 .taken) in le-leb share (a .loop .held) (w .1 .taken) ∙ sym (le-leb share (placesOf q (s .args .who)) more))
     (c .loop-test .came)
 
-number-is : (c : tie.After-refusal Inv-loop μ-loop) → let s = begun (counted c .before) in c .refusal .result ≡ firstOf (beginRows clause9 (view (s .args .s)) (asks s))
+number-is : (c : tie.After-judge Inv-loop μ-loop) → let s = begun (counted c .before) in c .judge .result .number ≡ firstOf (beginRows clause9 (view (s .args .s)) (asks s))
 number-is c =
     let out = counted c in
     let a = out .before in
     let s = begun a .args in
     let q = view (s .s) .queue in
-    c .refusal .ensures ∙ begin-rows (view (s .s)) (s .who) (s .awaited) (s .reads .now) (s .writes .now) _ _ _ _ (c .before .is-tenant .ensures)
+    c .judge .ensures .number ∙ begin-rows (view (s .s)) (s .who) (s .awaited) (s .reads .now) (s .writes .now) _ _ _
     (λ one.
     let is = own (read-meter a) one in
     (ap (λ (m : LawMeter). m .fuel) is, ap (λ (m : LawMeter). m .serials) is, full-is out ∙ ap (λ (m : LawMeter). leb (m .share) (placesOf q (s .who))) is))
@@ -105,7 +104,7 @@ unfolding beginOf
 refused c =
     let n = c .before .before in
     let s = begun (counted n .before) in
-    rw (← (number-is n)) (tenant-refused _ _ _ _ _ _ (c .before .if3 .taken) (billed-did (s .pre) (s .args .who) (n .refusal .result) (λ outside. number-is n ∙ outsider s outside) (c .billed .ensures)))
+    rw (← (number-is n)) (tenant-refused _ _ _ _ _ _ (c .before .if3 .taken) (billed-did (s .pre) (s .args .who) (n .judge .result .number) (λ outside. number-is n ∙ outsider s outside) (c .billed .ensures)))
 
 -- ---- the request that joins
 -- from where nothing was refused back to the start
@@ -127,32 +126,41 @@ range c = tenant-range (start c .args .who) (passed c .tenant)
 meter-is : (c : tie.Else3 Inv-loop μ-loop) → let s = start c .args in meterView (read-meter (counted (c .before) .before) .meter-of .result) ≡ meterOf (view (s .s)) (s .who)
 meter-is c = own (read-meter (counted (c .before) .before)) (passed c .tenant)
 
+-- the entry that was judged holds the request, but for its serial
+abbrev bare : tie.Start Inv-loop μ-loop → Request
+bare s = reduced (requested (s .args .who) 0 (s .args .awaited) (s .args .reads .now) (s .args .writes .now))
+
+stands : (c : tie.Else3 Inv-loop μ-loop) → Stands (bare (start c)) (c .before .judge .result .entry)
+stands c = c .before .judge .ensures .entry (c .if3 .left)
+
 -- the price is the law's
-price-is : (c : tie.After-price Inv-loop μ-loop) → c .price .result ≡ admission clause9 (asks (start (c .before .before)))
+price-is : (c : tie.After-price Inv-loop μ-loop) → c .price .result ≡ admission clause9 (reduced (asks (start (c .before .before .before))))
 unfolding size
-price-is c = c .price .ensures ∙ sym (admission-price (asks (start (c .before .before))))
+price-is c =
+    let one = c .before .before .before in
+    c .price .ensures ∙ ap (λ (e : Request). 2 + 2 * size e) (stands one .is) ∙ sym (admission-price (reduced (asks (start one))))
 
--- the entry that is made holds the request
-abbrev unrefused : tie.After-made Inv-loop μ-loop → tie.Else3 Inv-loop μ-loop
-unrefused c = c .before .before .before .before
+-- the entry with its serial holds the request
+abbrev unrefused : tie.After-numbered2 Inv-loop μ-loop → tie.Else3 Inv-loop μ-loop
+unrefused c = c .before .before .before .before .before
 
-made-is : (c : tie.After-made Inv-loop μ-loop) → request (c .made .result) ≡ asks (start (unrefused c))
+made-is : (c : tie.After-numbered2 Inv-loop μ-loop) → request (c .numbered2 .result) ≡ reduced (asks (start (unrefused c)))
 made-is c =
     let one = unrefused c in
-    let s = start one .args in
-    let next = ap (λ (m : LawMeter). m .serials) (c .before .before .before .numbered .ensures) ∙ ap (λ (m : LawMeter). m .serials + 1) (meter-is one) in
-    c .made .ensures .is ∙ ap (λ (n : ℕ). requested (s .who) n (s .awaited) (s .reads .now) (s .writes .now)) next
+    let given = c .before .before .before in
+    let next = ap (λ (m : LawMeter). m .serials) (given .numbered .ensures) ∙ ap (λ (m : LawMeter). m .serials + 1) (meter-is one) in
+    c .numbered2 .ensures .is ∙ ap (λ (e : Request). withSerial e (given .numbered .result .serials)) (stands one .is) ∙ ap (withSerial (bare (start one))) next
 
-lists : (c : tie.After-made Inv-loop μ-loop) → Lists (c .made .result)
-lists c = entry-lists (c .made .result) _ (c .made .ok)
+lists : (c : tie.After-numbered2 Inv-loop μ-loop) → Lists (c .numbered2 .result)
+lists c = entry-lists (c .numbered2 .result) _ (c .numbered2 .ok)
 
-abbrev made-of : tie.After-few2 Inv-loop μ-loop → tie.After-made Inv-loop μ-loop
+abbrev made-of : tie.After-few2 Inv-loop μ-loop → tie.After-numbered2 Inv-loop μ-loop
 made-of c = c .before .before
 
-read-list : (c : tie.After-few Inv-loop μ-loop) → let e = c .before .made .result in take (c .few .result) (e .reads) ≡ request e .reads
+read-list : (c : tie.After-few Inv-loop μ-loop) → let e = c .before .numbered2 .result in take (c .few .result) (e .reads) ≡ request e .reads
 read-list c = few-take _ (c .few .result) (lists (c .before) .reads) (c .few .ensures)
 
-write-list : (c : tie.After-few2 Inv-loop μ-loop) → let e = made-of c .made .result in take (c .few2 .result) (e .writes) ≡ request e .writes
+write-list : (c : tie.After-few2 Inv-loop μ-loop) → let e = made-of c .numbered2 .result in take (c .few2 .result) (e .writes) ≡ request e .writes
 write-list c = few-take _ (c .few2 .result) (lists (made-of c) .writes) (c .few2 .ensures)
 
 -- from the raised counters back to the lists' lengths
@@ -197,11 +205,8 @@ loop-again c =
     (λ w. (omega (arith, turn .loop-test .taken), omega (arith, a .loop .inv .1, w .1), omega (arith, a .loop .inv .2, w .1, simp (ne-eqb _ _ (w .0 .left)) at step)))
     (c .if2 .came)
 
-is-tenant-requires : tie.Need-is-tenant-requires Inv-loop μ-loop
-is-tenant-requires c κs = search needs
-
-refusal-requires : tie.Need-refusal-requires Inv-loop μ-loop
-refusal-requires c κs = search needs
+judge-requires : tie.Need-judge-requires Inv-loop μ-loop
+judge-requires c κs = search needs
 
 billed-requires : tie.Need-billed-requires Inv-loop μ-loop
 billed-requires c κs = search needs
@@ -210,31 +215,32 @@ returns : tie.Need-returns Inv-loop μ-loop
 returns c = refused (c .before .before)
 
 numbered-requires : tie.Need-numbered-requires Inv-loop μ-loop
-numbered-requires c κs = omega (arith, passed c .serial, ap (λ (m : LawMeter). m .serials) (meter-is c))
+numbered-requires c κs = let one = c .before in omega (arith, passed one .serial, ap (λ (m : LawMeter). m .serials) (meter-is one))
 
 price-requires : tie.Need-price-requires Inv-loop μ-loop
-price-requires c κs = let a = passed (c .before) in (a .lists .few-reads, a .lists .few-writes)
+price-requires c κs = search needs
 
 charged-requires : tie.Need-charged-requires Inv-loop μ-loop
 charged-requires c κs =
     let n = c .before in
-    let fuel = ap (λ (m : LawMeter). m .fuel) (n .numbered .ensures) ∙ ap (λ (m : LawMeter). m .fuel) (meter-is (n .before)) in
-    omega (arith, passed (n .before) .fuel, fuel, price-is c)
+    let one = n .before .before in
+    let fuel = ap (λ (m : LawMeter). m .fuel) (n .numbered .ensures) ∙ ap (λ (m : LawMeter). m .fuel) (meter-is one) in
+    omega (arith, passed one .fuel, fuel, price-is c)
 
 sub-k : tie.Need-sub-k Inv-loop μ-loop
-sub-k c = range (c .before .before .before) .0
+sub-k c = range (c .before .before .before .before) .0
 
 cast-k : tie.Need-cast-k Inv-loop μ-loop
 cast-k c = search needs
 
 mul-paid : tie.Need-mul-paid Inv-loop μ-loop
-mul-paid c = omega (arith, range (c .before .before .before) .1)
+mul-paid c = omega (arith, range (c .before .before .before .before) .1)
 
 element-set-from-paid : tie.Need-element-set-from-paid Inv-loop μ-loop
-element-set-from-paid c = omega (arith, range (c .before .before .before) .1)
+element-set-from-paid c = omega (arith, range (c .before .before .before .before) .1)
 
-made-requires : tie.Need-made-requires Inv-loop μ-loop
-made-requires c κs = let a = passed (c .before .before .before) in (a .lists .few-reads, a .lists .few-writes)
+numbered-requires-2 : tie.Need-numbered-requires-2 Inv-loop μ-loop
+numbered-requires-2 c κs = stands (c .before .before .before .before) .tidy
 
 few-requires : tie.Need-few-requires Inv-loop μ-loop
 few-requires c κs = search needs
@@ -259,7 +265,7 @@ raise-requires-2 c κs =
 admitted-requires : tie.Need-admitted-requires Inv-loop μ-loop
 admitted-requires c κs =
     let up = c .before .before .before in
-    made-of (raised-by (up .before .before)) .made .ensures .tidy
+    made-of (raised-by (up .before .before)) .numbered2 .ensures .tidy
 
 mul-joins : tie.Need-mul-joins Inv-loop μ-loop
 mul-joins c = omega (arith, place (unrefused (made-of (raised-by (both-raised c .before .before)))))
@@ -304,8 +310,7 @@ begin-spec =
     add-i
     loop-less
     loop-again
-    is-tenant-requires
-    refusal-requires
+    judge-requires
     billed-requires
     returns
     numbered-requires
@@ -315,7 +320,7 @@ begin-spec =
     cast-k
     mul-paid
     element-set-from-paid
-    made-requires
+    numbered-requires-2
     few-requires
     few-requires-2
     raise-requires

@@ -4,7 +4,7 @@ use Prim.Native.Nat.{_≤_, _<_, _-_, _+_}
 use native.Mathlib.Omega.{arith}
 use mathlib.Core.Path.{_≡_, refl}
 use lib.ListN.{length, getD, take}
-use Rattle.rules.specs.Records.{WellFormed}
+use Rattle.rules.specs.Records.{Stored}
 use Rattle.rules.specs.Request.{nobody}
 use Rattle.entry.specs.Entry.{blank}
 use Rattle.queue.proofs.Shift.{Shifted, shift-none, shift-more}
@@ -33,7 +33,7 @@ slots c = slotted (c .args .s) _ (c .good .0) (c .pre .0)
 there : (c : tie.Start Inv-loop μ-loop) → c .args .at < length (view (c .args .s) .queue)
 there c = c .pre .1 .0
 
-formed : (c : tie.Start Inv-loop μ-loop) → let e = getD (view (c .args .s) .queue) (c .args .at) nobody in WellFormed (e .reads) (e .writes)
+formed : (c : tie.Start Inv-loop μ-loop) → let e = getD (view (c .args .s) .queue) (c .args .at) nobody in Stored (e .reads) (e .writes)
 formed c = c .pre .1 .1
 
 -- the records that are counted are the entry's

@@ -1,0 +1,136 @@
+-- A request that was admitted keeps its lists for as long as it is queued. So whoever asks for a record that it sells, or sells
+-- one that it uses, finds a conflict ahead.
+use Prim.Native.Nat.{ℕ, _≤_}
+use mathlib.Core.Path.{_≡_, refl, sym, ap, subst, _∙_}
+use mathlib.Core.Bool.{Bool, true, false, _&&_, _||_, not, false≢true}
+use mathlib.Core.List.{List, [], _∷_, _++_}
+use mathlib.Core.Logic.{⊎-elim}
+use native.Mathlib.Omega.{arith}
+use lib.Dec.{eqb}
+use borrow.Author.Tests.{eqb-true, not-true}
+use Rattle.rules.specs.declared.Answer.{Answer}
+use Rattle.rules.specs.declared.Answer.the-variants.{Refused}
+use Rattle.rules.specs.Lists.{if_then_else_, some, every}
+use Rattle.rules.specs.Records.{meets}
+use Rattle.rules.specs.Request.{Request, nobody, reduced, conflict, conflictsAny, isNamed, promoted, admitted}
+use Rattle.rules.specs.Table.{Table}
+use Rattle.rules.specs.Prices.{Prices}
+use Rattle.rules.specs.Refusals.{firstOf, beginRows}
+use Rattle.rules.specs.Calls.{Outcome, named, beginOf}
+use Rattle.rules.specs.Said.{said}
+use Rattle.rules.specs.Sound.{Each, Fit, SoundAny, givenBy}
+use Rattle.rules.specs.Runs.{Call, Run, step, isOpen, number, after, runOf}
+use Rattle.rules.proofs.Tests.{both, either, or-true, if-cases, if-either}
+use Rattle.rules.proofs.Conflict.{conflict-sym, shares-conflict}
+use Rattle.rules.proofs.Reduced.{reduced-conflicts}
+use Rattle.rules.proofs.Admission.{Admissible, begin-admits}
+use Rattle.rules.proofs.Refusals.{begin-passes}
+use Rattle.rules.proofs.Order.{each-map, each-without, each-last}
+use Rattle.rules.proofs.Sound.{step-any}
+use Rattle.promises.specs.Fuel.{reached}
+use Rattle.promises.specs.Names.{Claim, claimOf}
+use Rattle.promises.specs.Sales.{Ask, begin, askedAt, meeting, SellersConflict, SecondWaits}
+use Rattle.promises.proofs.Changes.{Change, changed, grown}
+use Rattle.promises.proofs.Names.{each-end, book, name-of, fresh-name, each-changed}
+
+-- ---- the conflict
+pub sellers-conflict : SellersConflict
+sellers-conflict t u a b r share =
+    let x = askedAt t a in
+    let y = askedAt u b in
+    reduced-conflicts (reduced x) y ∙ conflict-sym (reduced x) y ∙ reduced-conflicts y x ∙ conflict-sym y x ∙ shares-conflict x y r share
+
+-- a conflict is told from the lists alone
+same-lists : (e f y : Request) → claimOf e ≡ claimOf f → conflict e y ≡ conflict f y
+unfolding conflict
+same-lists e f y k =
+    ap (λ (c : Claim). meets (c .writes) (y .writes) || meets (c .writes) (y .reads) || meets (c .reads) (y .writes)) k
+
+-- some entry of the list bears the name, and who does conflicts
+named-clash : (who serial : ℕ) (y : Request) {q : List Request} → Each (λ e. isNamed who serial e ≡ true → conflict e y ≡ true) q → some (isNamed who serial) q ≡ true → conflictsAny q y ≡ true
+unfolding some
+named-clash who serial y Each.none h = h
+named-clash who serial y (Each.also {x = x} {xs = xs} k ks) h = ⊎-elim
+    (λ (is : isNamed who serial x ≡ true). ap (λ (b : Bool). b || conflictsAny xs y) (k is))
+    (λ (is : some (isNamed who serial) xs ≡ true). ap (λ (b : Bool). conflict x y || b) (named-clash who serial y ks is) ∙ or-true (conflict x y))
+    (either (isNamed who serial x) (some (isNamed who serial) xs) h)
+
+-- ---- the request keeps its lists
+-- a Begin that was not refused
+not-refused : (z : ℕ) (answer : Answer) → said (if eqb z 0 then answer else Refused z) .number ≡ 0 → z ≡ 0
+not-refused z answer = if-cases (λ (a : Answer). said a .number ≡ 0 → z ≡ 0) (eqb z 0) (λ e. λ h. eqb-true z 0 e) (λ e. λ h. h)
+
+passes : (p : Prices) (t : Table) (a : Ask) → number (step p t (begin a)) ≡ 0 → Admissible p t (askedAt t a)
+unfolding beginOf
+passes p t a h = begin-passes p t (askedAt t a) (not-refused (firstOf (beginRows p t (askedAt t a))) _ h)
+
+-- whoever bears the name has these lists
+Keeps : ℕ → ℕ → Claim → List Request → Type 0
+Keeps who serial c q = Each (λ e. isNamed who serial e ≡ true → claimOf e ≡ c) q
+
+change-keeps : {t : Table} {added : List Claim} {q : List Request} → Change t added q → (who serial : ℕ) (c : Claim) → serial ≤ givenBy t who → Keeps who serial c (t .queue) → Keeps who serial c q
+unfolding Keeps
+change-keeps Change.same who serial c le h = h
+change-keeps {t} (Change.joins e k) who serial c le h = each-last h (λ is. absurd (false≢true (sym (fresh-name t who serial e k le) ∙ is)))
+change-keeps (Change.leaves at) who serial c le h = each-without at h
+change-keeps (Change.changes at e k) who serial c le h = each-changed h at e (λ old. λ is. k ∙ old (sym (ap (λ (c : Claim). eqb (c .tenant) who && eqb (c .serial) serial) k) ∙ is))
+
+module _ (p : Prices) where
+  keeps-on : (who serial : ℕ) (c : Claim) (more : List Call) (r : Run) → SoundAny (r .table) → every (λ c. not (isOpen c)) more ≡ true → serial ≤ givenBy (r .table) who → Keeps who serial c (r .table .queue) → Keeps who serial c (runOf p r more .table .queue)
+  unfolding runOf after every
+  keeps-on who serial c [] r s shut le h = h
+  keeps-on who serial c (d ∷ more) r s shut le h =
+      let t = r .table in
+      let k = both (not (isOpen d)) (every (λ (c : Call). not (isOpen c)) more) shut in
+      let closed : isOpen d ≡ false = not-true (isOpen d) (k .0) in
+      keeps-on who serial c more (after p r d) (step-any p s d) (k .1) (omega (arith, le, grown p t d closed .more who)) (change-keeps (changed p t d closed) who serial c le h)
+
+  -- from the step that admits it
+  module _ {t : Table} (s : SoundAny t) (a : Ask) (first : number (step p t (begin a)) ≡ 0) where
+    abbrev wanted : Request
+    wanted = reduced (askedAt t a)
+
+    abbrev met : Table
+    met = step p t (begin a) .table
+
+    joins : met .queue ≡ t .queue ++ admitted (t .queue) wanted ∷ []
+    joins = ap (λ (o : Outcome). o .table .queue) (begin-admits (passes p t a first))
+
+    same-claim : claimOf (admitted (t .queue) wanted) ≡ claimOf wanted
+    unfolding admitted promoted
+    same-claim = if-either (λ (e : Request). claimOf e ≡ claimOf wanted) (conflictsAny (t .queue) wanted) refl refl
+
+    first-given : wanted .serial ≤ givenBy met (a .who)
+    first-given =
+        let fits = subst (Each (Fit (givenBy met))) joins (step-any p s (begin a) .entries) in
+        let own = same-claim in
+        let last = each-end (t .queue) fits .to-given in
+        rw (ap (λ (c : Claim). c .serial) own, ap (λ (c : Claim). c .tenant) own) at last
+
+    -- nobody bore the name before
+    first-keeps : Keeps (a .who) (wanted .serial) (claimOf wanted) (met .queue)
+    unfolding Keeps
+    first-keeps =
+        let old : Keeps (a .who) (wanted .serial) (claimOf wanted) (t .queue) = each-map never-named (s .entries) in
+        rw joins (each-last old (λ is. same-claim))
+      where
+        never-named : (e : Request) → Fit (givenBy t) e → isNamed (a .who) (wanted .serial) e ≡ true → claimOf e ≡ claimOf wanted
+        never-named e f is =
+            let n = name-of (a .who) (wanted .serial) e is in
+            let le : e .serial ≤ givenBy t (a .who) = rw (n .0) at (f .to-given) in
+            absurd (omega (arith, le, n .1))
+
+  -- the second request finds it ahead
+  pub second-waits : SecondWaits p
+  unfolding runOf after Keeps admitted
+  second-waits shares calls between a b r m share =
+      let before = reached p shares calls in
+      let t = before .table in
+      let s = book p shares calls .sound in
+      let u = meeting p before a between in
+      let x = reduced (askedAt t a) in
+      let y = reduced (askedAt u b) in
+      let kept = keeps-on (a .who) (x .serial) (claimOf x) between (after p before (begin a)) (step-any p s (begin a)) (m .shut) (first-given s a (m .first)) (first-keeps s a (m .first)) in
+      let clashes : Each (λ e. isNamed (a .who) (x .serial) e ≡ true → conflict e y ≡ true) (u .queue) = each-map (λ e k. λ is. same-lists e x y (k is) ∙ sellers-conflict t u a b r share) kept in
+      let clash = named-clash (a .who) (x .serial) y clashes (m .queued) in
+      ap (λ (o : Outcome). o .answer) (begin-admits (passes p u b (m .second))) ∙ ap (λ (c : Bool). named (if c then y else promoted y)) clash
