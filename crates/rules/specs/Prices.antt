@@ -48,8 +48,8 @@ looks p = total (λ e. p .look (size e))
 abbrev pub searching : Prices → List Request → ℕ
 searching p looked = p .search + looks p looked
 
--- the refusals that the column "Burns" charges: 3 to 11. The others burn 0; a scan cut short has its own row, and
--- burns what its walk had burnt (Scan).
+-- the refusals that the column "Burns" charges: 3 to 11, with 5, which no call gives any more (document 02, item 4). The others
+-- burn 0; a scan cut short has its own row, and burns what its walk had burnt (Scan).
 unfoldable pub costly : List ℕ
 costly = 3 ∷ 4 ∷ 5 ∷ 6 ∷ 7 ∷ 8 ∷ 9 ∷ 10 ∷ 11 ∷ []
 
