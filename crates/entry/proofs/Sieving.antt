@@ -10,18 +10,9 @@ use lib.ListN.{length, getD, take, drop, set, replicate, length-set, drop-of-len
 use lib.Seq.{drop-set-lt, take-suc-set, length-take-le}
 use Rattle.rules.specs.Lists.{if_then_else_, keepIf}
 use Rattle.rules.specs.Records.{member, onlyRead}
-use Rattle.rules.proofs.Lists.{count-le}
-use Rattle.rules.proofs.Reduced.{keep-count}
 use Rattle.rules.proofs.Steps.{list-step}
 use Rattle.rules.proofs.Arrays.{rest-next}
 use Rattle.entry.specs.Entry.{Kept}
-
--- no more are only read than are read
-pub only-few : (reads writes : List ℕ) {n : ℕ} → length reads ≤ n → length (onlyRead reads writes) ≤ n
-unfolding onlyRead
-only-few reads writes few =
-    let f : ℕ → Bool = λ r. not (member r writes) in
-    omega (arith, keep-count f reads, count-le f reads, few)
 
 -- the array's first k records are those of the first i reads that are not written, and the rest are zero
 pub record Sifted (reads writes : List ℕ) (i k : ℕ) (array : List ℕ) : Type 0 where

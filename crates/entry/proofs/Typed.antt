@@ -6,7 +6,7 @@ use mathlib.Core.List.{List, [], _∷_, map}
 use native.Mathlib.Omega.{arith}
 use mathlib.Core.Logic.{⊎-elim}
 use lib.ListN.{length, getD, take}
-use lib.Seq.{take-all}
+use lib.Seq.{take-all, length-take-le}
 use mir.Syntax.{w8}
 use mir.Val.{Val}
 use denote.Plain.{UInt}
@@ -61,6 +61,10 @@ few-take n few {xs} b e = ⊎-elim
     let long : length xs ≤ n = omega (arith, b .size) in
     take-all few xs whole ∙ sym (take-all n xs long))
     (lt-or-ge n 8)
+
+-- and so many of the array there are
+pub few-size : (n few : ℕ) {xs : List ℕ} → Bytes 8 xs → few ≡ min n 8 → few ≡ length (take few xs)
+few-size n few {xs} b e = let room : few ≤ length xs = omega (arith, b .size) in sym (length-take-le few xs room)
 
 small : (n : ℕ) (xs : List ℕ) → ((i : ℕ) → getD xs i 0 < 256) → (k : ℕ) → member k (take n xs) ≡ true → k < 256
 unfolding member some

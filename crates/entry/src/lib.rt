@@ -164,27 +164,6 @@ pub fn made(tenant: u8, awaited: u8, reads: &[u8], writes: &[u8]) -> Entry
     }
 }
 
-// The entry with its serial.
-pub fn numbered(e: Entry, serial: u16) -> Entry
-    requires { ⌜ Tidy e ⌝ }
-    ensures { λ r. ⌜ Stands (withSerial (request e) serial) r ⌝ }
-{
-    let was = e.mode;
-    let reads = e.reads;
-    let writes = e.writes;
-    Entry {
-        serial: serial,
-        tenant: e.tenant,
-        mode: was,
-        awaited: e.awaited,
-        due: e.due,
-        nr: e.nr,
-        nw: e.nw,
-        reads: reads,
-        writes: writes,
-    }
-}
-
 // Whether the first n records of a list are strictly rising.
 fn part_rises(list: [u8; 8], n: u8) -> bool
     ensures { λ r. ⌜ r ≡ rising (take n list) ⌝ }
@@ -225,15 +204,15 @@ pub fn is_blocked(mode: Mode) -> bool
     }
 }
 
-// The entry with another state and another number of answers due.
-fn changed(e: Entry, mode: Mode, due: u8) -> Entry
+// The entry under another serial, with another state and another number of answers due.
+fn changed(e: Entry, serial: u16, mode: Mode, due: u8) -> Entry
     requires { ⌜ Tidy e ⌝ }
-    ensures { λ r. ⌜ Stands (withMode (withDue (request e) due) mode) r ⌝ }
+    ensures { λ r. ⌜ Stands (withSerial (withMode (withDue (request e) due) mode) serial) r ⌝ }
 {
     let reads = e.reads;
     let writes = e.writes;
     Entry {
-        serial: e.serial,
+        serial: serial,
         tenant: e.tenant,
         mode: mode,
         awaited: e.awaited,
@@ -245,15 +224,24 @@ fn changed(e: Entry, mode: Mode, due: u8) -> Entry
     }
 }
 
+// The entry once its serial is given.
+pub fn numbered(e: Entry, serial: u16) -> Entry
+    requires { ⌜ Tidy e ⌝ }
+    ensures { λ r. ⌜ Stands (withSerial (request e) serial) r ⌝ }
+{
+    let was = e.mode;
+    changed(e, serial, was, e.due)
+}
+
 // The entry once it is promoted: Waiting only if an answer is still due, otherwise Free.
 pub fn promoted(e: Entry) -> Entry
     requires { ⌜ Tidy e ⌝ }
     ensures { λ r. ⌜ Stands (promotedOf (request e)) r ⌝ }
 {
     if 0 < e.due {
-        changed(e, Mode::Waiting, e.due)
+        changed(e, e.serial, Mode::Waiting, e.due)
     } else {
-        changed(e, Mode::Free, e.due)
+        changed(e, e.serial, Mode::Free, e.due)
     }
 }
 
@@ -277,7 +265,7 @@ pub fn delivered(e: Entry) -> Entry
     let left = e.due - 1;
     let was = e.mode;
     let mode = answered(was, left);
-    changed(e, mode, left)
+    changed(e, e.serial, mode, left)
 }
 
 // The answer with an entry's state and its name.

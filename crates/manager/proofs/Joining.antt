@@ -1,6 +1,6 @@
 -- A request that joins: what the counters, its own count included, tell of it, and the table with it at the back.
 use Prim.Native.Nat.{ℕ, zero, suc, _+_, _-_, _≤_, _<_}
-use mathlib.Core.Path.{_≡_, refl, sym, ap, subst, _∙_}
+use mathlib.Core.Path.{_≡_, sym, ap, subst, _∙_}
 use mathlib.Core.Bool.{Bool, true, _&&_, _||_}
 use mathlib.Core.List.{List, [], _∷_, _++_, map}
 use lib.Dec.{eqb, ltb}
@@ -17,7 +17,7 @@ use Rattle.rules.specs.Refusals.{firstOf, beginRows}
 use Rattle.rules.specs.Counters.{cx, cs, figure2, alone}
 use Rattle.rules.specs.Calls.{asked, beginOf, joined, named}
 use Rattle.rules.specs.Sound.{Each, Names}
-use Rattle.rules.proofs.Tests.{if-either}
+use Rattle.rules.proofs.Requests.{admitted-as}
 use Rattle.rules.proofs.Admission.{Admissible}
 use Rattle.rules.proofs.Refusals.{begin-passes}
 use Rattle.rules.proofs.Room.{queue-room, sound-count}
@@ -73,19 +73,6 @@ each-byte (suc n) (x ∷ xs) below = let small : x ≤ 255 = omega (arith, below
 
 pub records-small : (e : Entry) → Lists e → Names (λ r. r ≤ 255) (request e)
 records-small e b = record { reads = each-byte (e .nr) (e .reads) (b .reads .below); writes = each-byte (e .nw) (e .writes) (b .writes .below) }
-
--- the lists stay as they were asked
-pub admitted-reads : (q : List Request) (e : Request) → admitted q e .reads ≡ e .reads
-unfolding admitted promoted
-admitted-reads q e = if-either (λ (a : Request). a .reads ≡ e .reads) (conflictsAny q e) refl refl
-
-pub admitted-writes : (q : List Request) (e : Request) → admitted q e .writes ≡ e .writes
-unfolding admitted promoted
-admitted-writes q e = if-either (λ (a : Request). a .writes ≡ e .writes) (conflictsAny q e) refl refl
-
-pub admitted-tenant : (q : List Request) (e : Request) → admitted q e .tenant ≡ e .tenant
-unfolding admitted promoted
-admitted-tenant q e = if-either (λ (a : Request). a .tenant ≡ e .tenant) (conflictsAny q e) refl refl
 
 -- figure 2 by the counters with its own count: it is the entry that the law book admits
 pub admitted-stands : (q : List Request) {x y : List ℕ} {e joins : Entry} → Counts (λ a. a .writes) x (q ++ request e ∷ []) → Counts (λ a. a .reads) y (q ++ request e ∷ []) → Lists e → Stored (request e .reads) (request e .writes) → Stands (if figure2 (at x) (at y) (request e) then request e else promoted (request e)) joins → Stands (admitted q (request e)) joins
@@ -151,13 +138,14 @@ module _ {s : State} (h : Sound s) (k : Slotted s) (who awaited : ℕ) (reads wr
     begin-did {paid} {cost} {answer} price pays says =
         let t = view s in
         let a = admitted (t .queue) wanted in
-        let reads-are = admitted-reads (t .queue) wanted in
-        let writes-are = admitted-writes (t .queue) wanted in
+        let same = admitted-as (t .queue) wanted in
+        let reads-are : a .reads ≡ wanted .reads = ap (λ (b : Request). b .reads) same in
+        let writes-are : a .writes ≡ writes = ap (λ (b : Request). b .writes) same in
         let formed : Stored (a .reads) (a .writes) = rw (reads-are, writes-are) lists in
         let cx-raised : Raised (s .cx) (a .writes) x = rw writes-are (rw (ap (λ (b : Request). b .writes) is) at w) in
         let cs-raised : Raised (s .cs) (a .reads) y = rw reads-are (rw (ap (λ (b : Request). b .reads) is) at r) in
         let holds = rw (own .is) at (pushed-holds (k .slots) joins room (own .tidy)) in
-        let meters = joined-meters s (h .table .sixteen) a who (admitted-tenant (t .queue) wanted) (allowed .tenant) (admission clause9 wanted) paid (pays ∙ ap (spent _) price) in
+        let meters = joined-meters s (h .table .sixteen) a who (ap (λ (b : Request). b .tenant) same) (allowed .tenant) (admission clause9 wanted) paid (pays ∙ ap (spent _) price) in
         tenant-done t who _ (admission clause9 wanted) (joined t a) (named a) none
         (sound-burn (begin-sound clause9 (h .table) _ _ _ _ small allowed) who (admission clause9 wanted) (allowed .tenant))
         (rw meters (joins-becomes (h .tied) _ a formed cx-raised cs-raised holds))

@@ -12,7 +12,7 @@ use lib.ListN.{length, getD, set}
 use borrow.Author.Tests.{eqb-true, ne-eqb, leb-false}
 use Rattle.rules.specs.declared.Answer.{Answer}
 use Rattle.rules.specs.Lists.{if_then_else_, countIf, total, before}
-use Rattle.rules.specs.Request.{Request, nobody, reduced, size, conflictsAny, isNamed, promoted, admitted, delivered}
+use Rattle.rules.specs.Request.{Request, nobody, reduced, size, isNamed, promoted, admitted, delivered}
 use Rattle.rules.specs.Table.{Table, isTenant, placesOf, fresh}
 use Rattle.rules.specs.Prices.{Prices, admission, searching, charge}
 use Rattle.rules.specs.Refusals.{firstOf, standsAt, entryOf, beginRows, finishRows, recheckRows, scanRows, deliverRows, grantRows, openRows}
@@ -24,7 +24,7 @@ use Rattle.rules.specs.Runs.{Call, step, callerOf, isOpen, isDryAnswer, burntBy
 use Rattle.rules.specs.Runs.Call.{Begin, Finish, Recheck, Scan, Open, Grant, Pick, Deliver}
 use Rattle.rules.proofs.Tests.{both, and-false, one, if-either, if-cases}
 use Rattle.rules.proofs.Lists.{count-last, count-without, count-set}
-use Rattle.rules.proofs.Requests.{delivered-as}
+use Rattle.rules.proofs.Requests.{admitted-as, delivered-as}
 use Rattle.rules.proofs.Refusals.{pass}
 use Rattle.rules.proofs.Costly.{costly-low, charge-unit}
 use Rattle.promises.specs.Fuel.{Fair, reached, fuelOf, NotDry}
@@ -38,11 +38,6 @@ unfolding before
 before-finds g [] d = λ lt. absurd (not-suc-le-zero lt)
 before-finds g (x ∷ xs) d =
     if-cases (λ (n : ℕ). n < length (x ∷ xs) → g (getD (x ∷ xs) n d) ≡ true) (g x) (λ e. λ lt. e) (λ e. λ lt. before-finds g xs d (le-of-suc-le-suc lt))
-
--- a request joins under its tenant's number
-admitted-tenant : (q : List Request) (e : Request) → admitted q e .tenant ≡ e .tenant
-unfolding admitted promoted
-admitted-tenant q e = if-either (λ (r : Request). r .tenant ≡ e .tenant) (conflictsAny q e) refl refl
 
 -- an own call pays for itself, a request for its Finish too
 own-units : (b : Bool) (units : ℕ) → 1 ≤ units → one b ≤ (if b then units else 0)
@@ -98,7 +93,7 @@ module _ {p : Prices} (f : Fair p) (t : Table) (who : ℕ) (h : isTenant who ≡
   -- a request that joins has paid for two calls
   begin-does : (e : Request) → let entry = admitted (t .queue) e in one (eqb (e .tenant) who) + held (joined t entry .queue) ≤ held (t .queue) + (if eqb (e .tenant) who then admission p e else 0)
   begin-does e =
-      let same : eqb (admitted (t .queue) e .tenant) who ≡ eqb (e .tenant) who = ap (λ (n : ℕ). eqb n who) (admitted-tenant (t .queue) e) in
+      let same : eqb (admitted (t .queue) e .tenant) who ≡ eqb (e .tenant) who = ap (λ (a : Request). eqb (a .tenant) who) (admitted-as (t .queue) e) in
       let more = count-last (λ (a : Request). eqb (a .tenant) who) (t .queue) (admitted (t .queue) e) in
       omega (arith, more, ap one same, both-units (eqb (e .tenant) who) (admission p e) (f .request (size e)))
 

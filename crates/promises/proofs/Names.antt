@@ -169,11 +169,11 @@ each-changed Each.none at e f = Each.none
 each-changed (Each.also p h) zero e f = Each.also (f p) h
 each-changed (Each.also p h) (suc at) e f = Each.also p (each-changed h at e f)
 
-change-away : {t : Table} {added : List Claim} {q : List Request} → Change t added q → (who serial : ℕ) → serial ≤ givenBy t who → Each (λ e. isNamed who serial e ≡ false) (t .queue) → Each (λ e. isNamed who serial e ≡ false) q
-change-away Change.same who serial le h = h
-change-away {t} (Change.joins e k) who serial le h = each-last h (fresh-name t who serial e k le)
-change-away (Change.leaves at) who serial le h = each-without at h
-change-away (Change.changes at e k) who serial le h = each-changed h at e (λ old. ap (λ (c : Claim). eqb (c .tenant) who && eqb (c .serial) serial) k ∙ old)
+change-away : (who serial : ℕ) (t : Table) (added : List Claim) (q : List Request) → Change t added q → serial ≤ givenBy t who → Each (λ e. isNamed who serial e ≡ false) (t .queue) → Each (λ e. isNamed who serial e ≡ false) q
+change-away who serial t _ _ Change.same le h = h
+change-away who serial t _ _ (Change.joins e k) le h = each-last h (fresh-name t who serial e k le)
+change-away who serial t _ _ (Change.leaves at) le h = each-without at h
+change-away who serial t _ _ (Change.changes at e k) le h = each-changed h at e (λ old. ap (λ (c : Claim). eqb (c .tenant) who && eqb (c .serial) serial) k ∙ old)
 
 -- no element passes the test
 none-some : {A : Type 0} (f : A → Bool) {xs : List A} → Each (λ x. f x ≡ false) xs → some f xs ≡ false
@@ -203,18 +203,19 @@ was-given who serial t (s ∷ steps) (Each.also w h) e = ⊎-elim
     (either (isQueued who serial (s .met)) (some (λ (s : Step). isQueued who serial (s .met)) steps) e)
 
 module _ (p : Prices) where
-  -- a name that is not in the queue, though its serial was given, does not come back
-  stays-away : (who serial : ℕ) (more : List Call) (r : Run) → SoundAny (r .table) → every (λ c. not (isOpen c)) more ≡ true → serial ≤ givenBy (r .table) who → Each (λ e. isNamed who serial e ≡ false) (r .table .queue) → isQueued who serial (runOf p r more .table) ≡ false
+  -- what each change of the queue keeps, once the serial was given, further calls keep
+  pub kept-on : (who serial : ℕ) (P : List Request → Type 0) → ((t : Table) (added : List Claim) (q : List Request) → Change t added q → serial ≤ givenBy t who → P (t .queue) → P q) → (more : List Call) (r : Run) → every (λ c. not (isOpen c)) more ≡ true → serial ≤ givenBy (r .table) who → P (r .table .queue) → P (runOf p r more .table .queue)
   unfolding runOf after every
-  stays-away who serial [] r s shut le h = none-some (isNamed who serial) h
-  stays-away who serial (c ∷ more) r s shut le h =
+  kept-on who serial P keep [] r shut le h = h
+  kept-on who serial P keep (c ∷ more) r shut le h =
       let t = r .table in
       let k = both (not (isOpen c)) (every (λ (c : Call). not (isOpen c)) more) shut in
       let closed : isOpen c ≡ false = not-true (isOpen c) (k .0) in
-      stays-away who serial more (after p r c) (step-any p s c) (k .1) (omega (arith, le, grown p t c closed .more who)) (change-away (changed p t c closed) who serial le h)
+      kept-on who serial P keep more (after p r c) (k .1) (omega (arith, le, grown p t c closed .more who)) (keep t _ _ (changed p t c closed) le h)
 
   pub never-back : NeverBack p
   never-back shares calls more who serial left shut =
       let r = reached p shares calls in
       let b = book p shares calls in
-      stays-away who serial more r (b .sound) shut (was-given who serial (r .table) (r .steps) (b .past) (left .was)) (each-none (isNamed who serial) (r .table .queue) (left .gone))
+      let away = each-none (isNamed who serial) (r .table .queue) (left .gone) in
+      none-some (isNamed who serial) (kept-on who serial (Each (λ e. isNamed who serial e ≡ false)) (change-away who serial) more r shut (was-given who serial (r .table) (r .steps) (b .past) (left .was)) away)

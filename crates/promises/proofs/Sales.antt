@@ -1,27 +1,28 @@
 -- A request that was admitted keeps its lists for as long as it is queued. So whoever asks for a record that it sells, or sells
 -- one that it uses, finds a conflict ahead.
 use Prim.Native.Nat.{ℕ, _≤_}
-use mathlib.Core.Path.{_≡_, refl, sym, ap, subst, _∙_}
-use mathlib.Core.Bool.{Bool, true, false, _&&_, _||_, not, false≢true}
+use mathlib.Core.Path.{_≡_, sym, ap, subst, _∙_}
+use mathlib.Core.Bool.{Bool, true, false, _&&_, _||_, false≢true}
 use mathlib.Core.List.{List, [], _∷_, _++_}
 use mathlib.Core.Logic.{⊎-elim}
 use native.Mathlib.Omega.{arith}
 use lib.Dec.{eqb}
-use borrow.Author.Tests.{eqb-true, not-true}
+use borrow.Author.Tests.{eqb-true}
 use Rattle.rules.specs.declared.Answer.{Answer}
 use Rattle.rules.specs.declared.Answer.the-variants.{Refused}
-use Rattle.rules.specs.Lists.{if_then_else_, some, every}
+use Rattle.rules.specs.Lists.{if_then_else_, some}
 use Rattle.rules.specs.Records.{meets}
-use Rattle.rules.specs.Request.{Request, nobody, reduced, conflict, conflictsAny, isNamed, promoted, admitted}
+use Rattle.rules.specs.Request.{Request, reduced, conflict, conflictsAny, isNamed, promoted, admitted}
 use Rattle.rules.specs.Table.{Table}
 use Rattle.rules.specs.Prices.{Prices}
 use Rattle.rules.specs.Refusals.{firstOf, beginRows}
 use Rattle.rules.specs.Calls.{Outcome, named, beginOf}
 use Rattle.rules.specs.Said.{said}
 use Rattle.rules.specs.Sound.{Each, Fit, SoundAny, givenBy}
-use Rattle.rules.specs.Runs.{Call, Run, step, isOpen, number, after, runOf}
-use Rattle.rules.proofs.Tests.{both, either, or-true, if-cases, if-either}
+use Rattle.rules.specs.Runs.{step, number, after, runOf}
+use Rattle.rules.proofs.Tests.{either, or-true, if-cases}
 use Rattle.rules.proofs.Conflict.{conflict-sym, shares-conflict}
+use Rattle.rules.proofs.Requests.{admitted-as}
 use Rattle.rules.proofs.Reduced.{reduced-conflicts}
 use Rattle.rules.proofs.Admission.{Admissible, begin-admits}
 use Rattle.rules.proofs.Refusals.{begin-passes}
@@ -30,8 +31,8 @@ use Rattle.rules.proofs.Sound.{step-any}
 use Rattle.promises.specs.Fuel.{reached}
 use Rattle.promises.specs.Names.{Claim, claimOf}
 use Rattle.promises.specs.Sales.{Ask, begin, askedAt, meeting, SellersConflict, SecondWaits}
-use Rattle.promises.proofs.Changes.{Change, changed, grown}
-use Rattle.promises.proofs.Names.{each-end, book, name-of, fresh-name, each-changed}
+use Rattle.promises.proofs.Changes.{Change}
+use Rattle.promises.proofs.Names.{each-end, book, name-of, fresh-name, each-changed, kept-on}
 
 -- ---- the conflict
 pub sellers-conflict : SellersConflict
@@ -68,23 +69,14 @@ passes p t a h = begin-passes p t (askedAt t a) (not-refused (firstOf (beginRows
 Keeps : ℕ → ℕ → Claim → List Request → Type 0
 Keeps who serial c q = Each (λ e. isNamed who serial e ≡ true → claimOf e ≡ c) q
 
-change-keeps : {t : Table} {added : List Claim} {q : List Request} → Change t added q → (who serial : ℕ) (c : Claim) → serial ≤ givenBy t who → Keeps who serial c (t .queue) → Keeps who serial c q
+change-keeps : (who serial : ℕ) (c : Claim) (t : Table) (added : List Claim) (q : List Request) → Change t added q → serial ≤ givenBy t who → Keeps who serial c (t .queue) → Keeps who serial c q
 unfolding Keeps
-change-keeps Change.same who serial c le h = h
-change-keeps {t} (Change.joins e k) who serial c le h = each-last h (λ is. absurd (false≢true (sym (fresh-name t who serial e k le) ∙ is)))
-change-keeps (Change.leaves at) who serial c le h = each-without at h
-change-keeps (Change.changes at e k) who serial c le h = each-changed h at e (λ old. λ is. k ∙ old (sym (ap (λ (c : Claim). eqb (c .tenant) who && eqb (c .serial) serial) k) ∙ is))
+change-keeps who serial c t _ _ Change.same le h = h
+change-keeps who serial c t _ _ (Change.joins e k) le h = each-last h (λ is. absurd (false≢true (sym (fresh-name t who serial e k le) ∙ is)))
+change-keeps who serial c t _ _ (Change.leaves at) le h = each-without at h
+change-keeps who serial c t _ _ (Change.changes at e k) le h = each-changed h at e (λ old. λ is. k ∙ old (sym (ap (λ (c : Claim). eqb (c .tenant) who && eqb (c .serial) serial) k) ∙ is))
 
 module _ (p : Prices) where
-  keeps-on : (who serial : ℕ) (c : Claim) (more : List Call) (r : Run) → SoundAny (r .table) → every (λ c. not (isOpen c)) more ≡ true → serial ≤ givenBy (r .table) who → Keeps who serial c (r .table .queue) → Keeps who serial c (runOf p r more .table .queue)
-  unfolding runOf after every
-  keeps-on who serial c [] r s shut le h = h
-  keeps-on who serial c (d ∷ more) r s shut le h =
-      let t = r .table in
-      let k = both (not (isOpen d)) (every (λ (c : Call). not (isOpen c)) more) shut in
-      let closed : isOpen d ≡ false = not-true (isOpen d) (k .0) in
-      keeps-on who serial c more (after p r d) (step-any p s d) (k .1) (omega (arith, le, grown p t d closed .more who)) (change-keeps (changed p t d closed) who serial c le h)
-
   -- from the step that admits it
   module _ {t : Table} (s : SoundAny t) (a : Ask) (first : number (step p t (begin a)) ≡ 0) where
     abbrev wanted : Request
@@ -97,8 +89,7 @@ module _ (p : Prices) where
     joins = ap (λ (o : Outcome). o .table .queue) (begin-admits (passes p t a first))
 
     same-claim : claimOf (admitted (t .queue) wanted) ≡ claimOf wanted
-    unfolding admitted promoted
-    same-claim = if-either (λ (e : Request). claimOf e ≡ claimOf wanted) (conflictsAny (t .queue) wanted) refl refl
+    same-claim = ap claimOf (admitted-as (t .queue) wanted)
 
     first-given : wanted .serial ≤ givenBy met (a .who)
     first-given =
@@ -130,7 +121,7 @@ module _ (p : Prices) where
       let u = meeting p before a between in
       let x = reduced (askedAt t a) in
       let y = reduced (askedAt u b) in
-      let kept = keeps-on (a .who) (x .serial) (claimOf x) between (after p before (begin a)) (step-any p s (begin a)) (m .shut) (first-given s a (m .first)) (first-keeps s a (m .first)) in
+      let kept = kept-on p (a .who) (x .serial) (Keeps (a .who) (x .serial) (claimOf x)) (change-keeps (a .who) (x .serial) (claimOf x)) between (after p before (begin a)) (m .shut) (first-given s a (m .first)) (first-keeps s a (m .first)) in
       let clashes : Each (λ e. isNamed (a .who) (x .serial) e ≡ true → conflict e y ≡ true) (u .queue) = each-map (λ e k. λ is. same-lists e x y (k is) ∙ sellers-conflict t u a b r share) kept in
       let clash = named-clash (a .who) (x .serial) y clashes (m .queued) in
       ap (λ (o : Outcome). o .answer) (begin-admits (passes p u b (m .second))) ∙ ap (λ (c : Bool). named (if c then y else promoted y)) clash

@@ -1,5 +1,5 @@
 -- The reduced lists: a record in both is only written. No other record, no conflict and no order is lost by it.
-use Prim.Native.Nat.{ℕ, _+_}
+use Prim.Native.Nat.{ℕ, _+_, _≤_}
 use mathlib.Core.Path.{_≡_, refl, sym, ap, _∙_}
 use mathlib.Core.Bool.{Bool, true, false, _&&_, _||_, not, true≢false}
 use mathlib.Core.List.{List, [], _∷_}
@@ -80,18 +80,22 @@ pub reduced-same : ReducedSame
 unfolding onlyRead meets
 reduced-same reads writes apart = keep-all (λ (r : ℕ). member r writes) reads apart
 
+-- no more are only read than are read
+pub only-few : (reads writes : List ℕ) {n : ℕ} → length reads ≤ n → length (onlyRead reads writes) ≤ n
+unfolding onlyRead
+only-few reads writes few =
+    let f : ℕ → Bool = λ r. not (member r writes) in
+    omega (arith, keep-count f reads, count-le f reads, few)
+
 pub reduced-stored : ReducedStored
 unfolding onlyRead meets
-reduced-stored reads writes f =
-    let kept = keep-count (λ (r : ℕ). not (member r writes)) reads in
-    let most = count-le (λ (r : ℕ). not (member r writes)) reads in
-    record {
-      few-reads = omega (arith, kept, most, f .few-reads);
-      few-writes = f .few-writes;
-      reads-rise = f .reads-rise;
-      writes-rise = f .writes-rise;
-      apart = keep-none (λ (r : ℕ). member r writes) reads;
-    }
+reduced-stored reads writes f = record {
+  few-reads = only-few reads writes (f .few-reads);
+  few-writes = f .few-writes;
+  reads-rise = f .reads-rise;
+  writes-rise = f .writes-rise;
+  apart = keep-none (λ (r : ℕ). member r writes) reads;
+}
 
 -- "it raises Cx and not Cs"
 pub reduced-raises : ReducedRaises

@@ -10,8 +10,8 @@ use lib.Dec.{eqb}
 use Rattle.rules.specs.declared.Mode.the-variants.{Free}
 use Rattle.rules.specs.Lists.{if_then_else_, some}
 use Rattle.rules.specs.Records.{member, meets}
-use Rattle.rules.specs.Request.{Request, size, conflict, conflictsAny, isWaiting, withMode, withDue, delivered}
-use Rattle.rules.proofs.Tests.{either}
+use Rattle.rules.specs.Request.{Request, size, conflict, conflictsAny, isWaiting, withMode, withDue, promoted, admitted, delivered}
+use Rattle.rules.proofs.Tests.{either, if-either}
 use Rattle.rules.proofs.Lists.{meets-at}
 
 -- a delivered answer changes how many are due, and the state
@@ -25,6 +25,11 @@ delivered-as e = go (isWaiting (e .mode) && eqb (e .due - 1) 0)
     go : (b : Bool) → (if b then withMode left Free else left) ≡ withMode left (if b then Free else (e .mode))
     go true = refl
     go false = refl
+
+-- a request that joins keeps all but its state
+pub admitted-as : (q : List Request) (e : Request) → admitted q e ≡ withMode e (admitted q e .mode)
+unfolding admitted promoted
+admitted-as q e = if-either (λ (a : Request). a ≡ withMode e (a .mode)) (conflictsAny q e) refl refl
 
 -- a request that conflicts with some entry names a record
 member-length : (r : ℕ) (xs : List ℕ) → member r xs ≡ true → 0 < length xs

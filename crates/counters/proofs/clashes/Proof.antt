@@ -1,11 +1,8 @@
 -- The entry's lists are lent.
-use Prim.Native.Nat.{_≤_}
-use mathlib.Core.Path.{sym, _∙_}
+use mathlib.Core.Path.{_∙_}
 use native.Mathlib.Omega.{arith}
-use lib.ListN.{length}
-use lib.Seq.{length-take-le}
 use Rattle.rules.specs.Counters.{figure2}
-use Rattle.entry.proofs.Typed.{Lists, entry-lists, few-take}
+use Rattle.entry.proofs.Typed.{Lists, entry-lists, few-take, few-size}
 use borrow.Author.Needs.{needs}
 use Rattle.counters.proofs.clashes.Statement.{statement}
 use Rattle.counters.proofs.clashes.Tie as tie
@@ -27,20 +24,13 @@ array-share-prefix-reads : tie.Need-array-share-prefix-reads
 array-share-prefix-reads c = let f = c .before .before .before in omega (arith, f .few .ensures, lists (f .before) .reads .size)
 
 slice-aggregate-clash : tie.Need-slice-aggregate-clash
-slice-aggregate-clash c =
-    let f = c .before .before .before .before in
-    let room : f .few .result ≤ length (f .before .args .e .reads) = omega (arith, f .few .ensures, lists (f .before) .reads .size) in
-    sym (length-take-le (f .few .result) (f .before .args .e .reads) room)
+slice-aggregate-clash c = let f = c .before .before .before .before in few-size _ (f .few .result) (lists (f .before) .reads) (f .few .ensures)
 
 array-share-prefix-writes : tie.Need-array-share-prefix-writes
 array-share-prefix-writes c = let f = c .before .before .before in omega (arith, f .few2 .ensures, lists (f .before .before) .writes .size)
 
 slice-aggregate-clash-2 : tie.Need-slice-aggregate-clash-2
-slice-aggregate-clash-2 c =
-    let f = c .before .before .before .before in
-    let s = f .before .before in
-    let room : f .few2 .result ≤ length (s .args .e .writes) = omega (arith, f .few2 .ensures, lists s .writes .size) in
-    sym (length-take-le (f .few2 .result) (s .args .e .writes) room)
+slice-aggregate-clash-2 c = let f = c .before .before .before .before in few-size _ (f .few2 .result) (lists (f .before .before) .writes) (f .few2 .ensures)
 
 clash-requires : tie.Need-clash-requires
 clash-requires c κs = search needs

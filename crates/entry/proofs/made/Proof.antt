@@ -1,6 +1,6 @@
 -- What is only read, and what is written, are kept at the front of the arrays, and the counts are their lengths.
 use native.Mathlib.Omega.{arith}
-use Rattle.entry.proofs.Sieving.{only-few}
+use Rattle.rules.proofs.Reduced.{only-few}
 use borrow.Author.Needs.{needs}
 use Rattle.entry.proofs.made.Statement.{statement}
 use Rattle.entry.proofs.made.Tie as tie

@@ -1,11 +1,7 @@
 -- The first records of the array are lent.
-use Prim.Native.Nat.{_≤_}
-use mathlib.Core.Path.{sym, ap, _∙_}
-use native.Mathlib.Omega.{arith}
-use lib.ListN.{length}
-use lib.Seq.{length-take-le}
+use mathlib.Core.Path.{ap, _∙_}
 use Rattle.rules.specs.Records.{rising}
-use Rattle.entry.proofs.Typed.{Bytes, bytes, few-take}
+use Rattle.entry.proofs.Typed.{Bytes, bytes, few-take, few-size}
 use borrow.Author.Needs.{needs}
 use Rattle.entry.proofs.part_rises.Statement.{statement}
 use Rattle.entry.proofs.part_rises.Tie as tie
@@ -24,11 +20,7 @@ array-share-prefix-list : tie.Need-array-share-prefix-list
 array-share-prefix-list c = search needs
 
 slice-aggregate-rises : tie.Need-slice-aggregate-rises
-slice-aggregate-rises c =
-    let f = c .before in
-    let a = f .before .args in
-    let room : f .few .result ≤ length (a .t1) = omega (arith, f .few .ensures, whole (f .before) .size) in
-    sym (length-take-le (f .few .result) (a .t1) room)
+slice-aggregate-rises c = let f = c .before in few-size _ (f .few .result) (whole (f .before)) (f .few .ensures)
 
 rises-requires : tie.Need-rises-requires
 rises-requires c κs = search needs

@@ -140,10 +140,14 @@ price-is c =
     let one = c .before .before .before in
     c .price .ensures ∙ ap (λ (e : Request). 2 + 2 * size e) (stands one .is) ∙ sym (admission-price (reduced (asks (start one))))
 
--- the entry with its serial holds the request
-abbrev unrefused : tie.After-numbered2 Inv-loop μ-loop → tie.Else3 Inv-loop μ-loop
-unrefused c = c .before .before .before .before .before
+-- from the price that is paid, and from the entry with its serial, back to where nothing was refused
+abbrev paid-by : tie.After-charged Inv-loop μ-loop → tie.Else3 Inv-loop μ-loop
+paid-by c = c .before .before .before .before
 
+abbrev unrefused : tie.After-numbered2 Inv-loop μ-loop → tie.Else3 Inv-loop μ-loop
+unrefused c = paid-by (c .before)
+
+-- that entry holds the request
 made-is : (c : tie.After-numbered2 Inv-loop μ-loop) → request (c .numbered2 .result) ≡ reduced (asks (start (unrefused c)))
 made-is c =
     let one = unrefused c in
@@ -228,19 +232,19 @@ charged-requires c κs =
     omega (arith, passed one .fuel, fuel, price-is c)
 
 sub-k : tie.Need-sub-k Inv-loop μ-loop
-sub-k c = range (c .before .before .before .before) .0
+sub-k c = range (paid-by c) .0
 
 cast-k : tie.Need-cast-k Inv-loop μ-loop
 cast-k c = search needs
 
 mul-paid : tie.Need-mul-paid Inv-loop μ-loop
-mul-paid c = omega (arith, range (c .before .before .before .before) .1)
+mul-paid c = omega (arith, range (paid-by c) .1)
 
 element-set-from-paid : tie.Need-element-set-from-paid Inv-loop μ-loop
-element-set-from-paid c = omega (arith, range (c .before .before .before .before) .1)
+element-set-from-paid c = omega (arith, range (paid-by c) .1)
 
 numbered-requires-2 : tie.Need-numbered-requires-2 Inv-loop μ-loop
-numbered-requires-2 c κs = stands (c .before .before .before .before) .tidy
+numbered-requires-2 c κs = stands (paid-by c) .tidy
 
 few-requires : tie.Need-few-requires Inv-loop μ-loop
 few-requires c κs = search needs
