@@ -35,8 +35,18 @@ typedef struct damsonpouch_reply {
     uint8_t state;   /* of DAMSONPOUCH_ENTRY: the entry's state after the call */
     uint8_t tenant;  /* of DAMSONPOUCH_ENTRY: its tenant, 1 to 16 */
     uint16_t serial; /* of DAMSONPOUCH_ENTRY: its serial, 1 to 65,535 */
+    uint8_t clashed; /* 1 of a Begin whose entry is Blocked, and else 0: of a Deliver to a Blocked entry too */
+    uint8_t lowest;  /* where `clashed` is 1: the lowest record that the Begin clashed on, 0 to 255 */
     uint32_t burnt;  /* the units of fuel burnt, by a refused call too */
 } damsonpouch_reply;
+
+/* What damsonpouch_held hands back: how many of the 256 records are held by the entries in the queue, Blocked ones among them. */
+typedef struct damsonpouch_counts {
+    uint8_t number;   /* 0; or DAMSONPOUCH_NOT_SOUND, and then the counts are 0 */
+    uint16_t written; /* records that some entry writes: those with Cx above 0 */
+    uint16_t read;    /* records that some entry reads and does not write: those with Cs above 0 */
+    uint16_t either;  /* records that some entry writes or reads */
+} damsonpouch_counts;
 
 /* The kinds of a reply. */
 enum {
@@ -89,7 +99,8 @@ damsonpouch_reply damsonpouch_grant(uint8_t *block, size_t length, uint8_t tenan
  * and writes together. A record may stand in both lists. It then counts as written only, and once in n: the entry has it among
  * its writes alone. Each list has at most 8 records as given, and must strictly rise once the written ones are taken out of the
  * reads. Answers with the new entry: Blocked if it conflicts with an entry ahead, else Waiting if `awaited` is above 0, and else
- * Free. Refusals: 15, 1 to 9; of these 5 is no longer given. */
+ * Free. If it is Blocked, `clashed` is 1 and `lowest` the lowest record that it clashed on: one that it reads and an entry ahead
+ * writes, or that it writes and an entry ahead reads or writes. Refusals: 15, 1 to 9; of these 5 is no longer given. */
 damsonpouch_reply damsonpouch_begin(uint8_t *block, size_t length, uint8_t tenant, uint8_t awaited, const uint8_t *reads,
     size_t reads_length, const uint8_t *writes, size_t writes_length);
 
@@ -113,6 +124,9 @@ damsonpouch_reply damsonpouch_deliver(uint8_t *block, size_t length, uint8_t ten
 
 /* Whether the block is sound, as every call but Open asks. It is only read. A host need not ask, since the calls do. */
 bool damsonpouch_sound(const uint8_t *block, size_t length);
+
+/* A host call: how many records are held. It burns nothing, and the block is only read. Refusals: 15. */
+damsonpouch_counts damsonpouch_held(const uint8_t *block, size_t length);
 
 #ifdef __cplusplus
 }

@@ -24,6 +24,8 @@ static damsonpouch_reply told(const char *what, damsonpouch_reply reply) {
     switch (reply.kind) {
     case DAMSONPOUCH_ENTRY:
         printf("%s:%u.%u", states[reply.state], (unsigned)reply.tenant, (unsigned)reply.serial);
+        if (reply.clashed)
+            printf("@%u", (unsigned)reply.lowest);
         break;
     case DAMSONPOUCH_REFUSED:
         printf("refused:%u", (unsigned)reply.number);
@@ -51,7 +53,11 @@ int main(void) {
     damsonpouch_reply count = told("the shop counts its lamps", damsonpouch_begin(block, length, SHOP, 0, NULL, 0, lamps, 1));
     damsonpouch_reply book = told("and books its takings", damsonpouch_begin(block, length, SHOP, 0, prices, 1, till, 1));
     /* The sale reads the lamps and writes them back. In both lists they count as written only: two records in all. */
+    /* The record behind the @ is the one that it waits for. */
     damsonpouch_reply sale = told("the seller sells a lamp", damsonpouch_begin(block, length, SELLER, 0, stock, 2, lamps, 1));
+    const damsonpouch_counts held = damsonpouch_held(block, length);
+    printf("%-32swritten %u read %u either %u\n", "records held", (unsigned)held.written, (unsigned)held.read,
+        (unsigned)held.either);
 
     told("the seller looks, too early", damsonpouch_scan(block, length, SELLER));
     told("it cannot finish yet", damsonpouch_finish(block, length, SELLER, sale.serial));

@@ -15,6 +15,11 @@
 
 _Static_assert(sizeof(damsonpouch_reply) == 12, "the reply has 12 bytes");
 _Static_assert(offsetof(damsonpouch_reply, serial) == 4 && offsetof(damsonpouch_reply, burnt) == 8, "where its numbers stand");
+_Static_assert(offsetof(damsonpouch_reply, clashed) == 6 && offsetof(damsonpouch_reply, lowest) == 7, "where its clash stands");
+_Static_assert(sizeof(damsonpouch_counts) == 8, "the counts have 8 bytes");
+_Static_assert(offsetof(damsonpouch_counts, written) == 2 && offsetof(damsonpouch_counts, read) == 4 &&
+                   offsetof(damsonpouch_counts, either) == 6,
+    "where they stand");
 
 static int checks, wrong;
 
@@ -105,13 +110,31 @@ static void tell(int line, const char *form, ...) {
     wrong++;
 }
 
-static void same_reply(int line, damsonpouch_reply got, int kind, int number, int state, int tenant, unsigned serial,
+/* The lowest record of a clash where there is none. */
+#define NONE (-1)
+
+static void same_begun(int line, damsonpouch_reply got, int kind, int number, int state, int tenant, unsigned serial, int lowest,
     uint32_t burnt) {
+    const int clashed = lowest != NONE, record = clashed ? lowest : 0;
     checks++;
     if (got.kind != kind || got.number != number || got.state != state || got.tenant != tenant || got.serial != serial ||
-        got.burnt != burnt)
-        tell(line, "the reply is %d %d %d %d %d %lu, due is %d %d %d %d %u %lu", got.kind, got.number, got.state, got.tenant,
-            got.serial, (unsigned long)got.burnt, kind, number, state, tenant, serial, (unsigned long)burnt);
+        got.clashed != clashed || got.lowest != record || got.burnt != burnt)
+        tell(line, "the reply is %d %d %d %d %d %d %d %lu, due is %d %d %d %d %u %d %d %lu", got.kind, got.number, got.state,
+            got.tenant, got.serial, got.clashed, got.lowest, (unsigned long)got.burnt, kind, number, state, tenant, serial, clashed,
+            record, (unsigned long)burnt);
+}
+
+/* A reply without a clash. */
+static void same_reply(int line, damsonpouch_reply got, int kind, int number, int state, int tenant, unsigned serial,
+    uint32_t burnt) {
+    same_begun(line, got, kind, number, state, tenant, serial, NONE, burnt);
+}
+
+static void same_counts(int line, damsonpouch_counts got, int number, int written, int read, int either) {
+    checks++;
+    if (got.number != number || got.written != written || got.read != read || got.either != either)
+        tell(line, "held is %d %d %d %d, due is %d %d %d %d", got.number, got.written, got.read, got.either, number, written, read,
+            either);
 }
 
 /* `now` is `due`. */
@@ -127,6 +150,9 @@ static void same_block(int line) {
 #define BURNS(call, kind, burnt) (same_reply(__LINE__, call, kind, 0, 0, 0, 0, burnt), same_block(__LINE__))
 #define NAMES(call, state, tenant, serial, burnt)                                                                               \
     (same_reply(__LINE__, call, DAMSONPOUCH_ENTRY, 0, state, tenant, serial, burnt), same_block(__LINE__))
+#define CLASHES(call, tenant, serial, lowest, burnt)                                                                            \
+    (same_begun(__LINE__, call, DAMSONPOUCH_ENTRY, 0, BLOCKED, tenant, serial, lowest, burnt), same_block(__LINE__))
+#define HOLDS(written, read, either) (same_counts(__LINE__, HELD(), 0, written, read, either), same_block(__LINE__))
 #define REFUSES(call, number, burnt)                                                                                            \
     (same_reply(__LINE__, call, DAMSONPOUCH_REFUSED, number, 0, 0, 0, burnt), same_block(__LINE__))
 #define SOUND(verdict)                                                                                                          \
@@ -146,6 +172,7 @@ static void same_block(int line) {
 #define SCAN(tenant) damsonpouch_scan(now, LENGTH, tenant)
 #define PICK() damsonpouch_pick(now, LENGTH)
 #define DELIVER(tenant, serial) damsonpouch_deliver(now, LENGTH, tenant, serial)
+#define HELD() damsonpouch_held(now, LENGTH)
 
 static const uint8_t two_two[16] = {2, 2};
 static const uint8_t fours[17] = {4, 4, 4, 4, 4, 4, 4, 4, 4, 4, 4, 4, 4, 4, 4, 4, 0};
@@ -196,7 +223,7 @@ static void begins(void) {
     fuel(due, 1, 34);
     serials(due, 1, 3);
     entry(due, 1, 3, BLOCKED, 2, 2, "\x0c\xff", "");
-    NAMES(BEGIN(1, 2, "\x0c\xff", 2, NULL, 0), BLOCKED, 1, 3, 6);
+    CLASHES(BEGIN(1, 2, "\x0c\xff", 2, NULL, 0), 1, 3, 12, 6);
 
     /* both lists empty, and NULL */
     start();
@@ -280,24 +307,106 @@ static void overlaps(void) {
         stock(due, 0);
         serials(due, 2, 1);
         entry(due, 2, 1, BLOCKED, 0, 0, "", "\x07");
-        NAMES(BEGIN(2, 0, seven, both, seven, 1), BLOCKED, 2, 1, 4);
+        CLASHES(BEGIN(2, 0, seven, both, seven, 1), 2, 1, 7, 4);
     }
     /* a reader of 7 waits behind them; one of another record, which it writes too, does not */
     stock(now, 8);
     stock(due, 4);
     serials(due, 2, 1);
     entry(due, 2, 1, BLOCKED, 0, 0, "\x07", "");
-    NAMES(BEGIN(2, 0, seven, 1, NULL, 0), BLOCKED, 2, 1, 4);
+    CLASHES(BEGIN(2, 0, seven, 1, NULL, 0), 2, 1, 7, 4);
     fuel(due, 2, 0);
     serials(due, 2, 2);
     entry(due, 2, 2, FREE, 0, 0, "", "\x09");
     NAMES(BEGIN(2, 0, "\x09\x09", 2, "\x09", 1), FREE, 2, 2, 4);
 }
 
+/* Tenant 1 runs one entry with these lists; tenant 2 has a place and fuel for a request of n records. */
+static void held_by_one(uint8_t *block, const uint8_t *reads, size_t r, const uint8_t *writes, size_t w, unsigned n) {
+    fresh(block, "11");
+    fuel(block, 2, 2 + 2 * n);
+    serials(block, 1, 1);
+    entry(block, 1, 1, FREE, 0, 0, "", "");
+    block[646] = (uint8_t)r;
+    block[647] = (uint8_t)w;
+    for (size_t k = 0; k < r + w; k++) {
+        const uint8_t record = k < r ? reads[k] : writes[k - r];
+        block[648 + k] = record;
+        block[(k < r ? 380 : 121) + record]++;
+    }
+}
+
+/* Every record, by a read of what is written, a write over a write and a write over a read. Two readers do not clash. */
+static void clashes_on_every_record(void) {
+    for (int record = 0; record < 256; record++) {
+        const uint8_t one[] = {(uint8_t)record};
+        for (int way = 0; way < 4; way++) {
+            const size_t held_writes = (size_t)way & 1, asked_writes = (size_t)way >> 1;
+            held_by_one(now, one, 1 - held_writes, one, held_writes, 1);
+            const damsonpouch_reply begun = BEGIN(2, 0, one, 1 - asked_writes, one, asked_writes);
+            same_begun(__LINE__, begun, DAMSONPOUCH_ENTRY, 0, way == 0 ? FREE : BLOCKED, 2, 1, way == 0 ? NONE : record, 4);
+            same_counts(__LINE__, HELD(), 0, (held_writes | asked_writes) != 0, (held_writes & asked_writes) == 0, 1);
+        }
+    }
+}
+
+/* What a Blocked Begin is told, and no other call tells. */
+static void clashes(void) {
+    static const uint8_t borders[] = {0, 63, 64, 127, 128, 191, 192, 255};
+    for (size_t k = 0; k < 8; k++) {
+        /* from each border on: the lowest of those asked for, in either list */
+        held_by_one(now, NULL, 0, borders, 8, 8);
+        same_begun(__LINE__, BEGIN(2, 0, borders + k, 8 - k, NULL, 0), 5, 0, BLOCKED, 2, 1, borders[k], (uint32_t)(18 - 2 * k));
+        held_by_one(now, borders, 8, NULL, 0, 8);
+        same_begun(__LINE__, BEGIN(2, 0, NULL, 0, borders + k, 8 - k), 5, 0, BLOCKED, 2, 1, borders[k], (uint32_t)(18 - 2 * k));
+    }
+    /* on the base: 5, 20 are read, 10 and 12 written. The lowest is among the writes, among the reads; lower ones that both read
+     * or that nobody has */
+    start();
+    fuel(due, 1, 34);
+    serials(due, 1, 3);
+    entry(due, 1, 3, BLOCKED, 1, 1, "\x0c", "\x0a");
+    CLASHES(BEGIN(1, 1, "\x0c", 1, "\x0a", 1), 1, 3, 10, 6);
+    due[640 + 72 + 5] = 0;
+    NAMES(DELIVER(1, 3), BLOCKED, 1, 3, 0);
+    start();
+    fuel(due, 1, 34);
+    serials(due, 1, 3);
+    entry(due, 1, 3, BLOCKED, 0, 0, "\x0c", "\x14");
+    CLASHES(BEGIN(1, 0, "\x0c", 1, "\x14", 1), 1, 3, 12, 6);
+    start();
+    fuel(due, 1, 32);
+    serials(due, 1, 3);
+    entry(due, 1, 3, BLOCKED, 0, 0, "\x05\x0c", "\x0b");
+    CLASHES(BEGIN(1, 0, "\x05\x0c", 2, "\x0b", 1), 1, 3, 12, 8);
+}
+
 /* What is left of the base without 1.1. */
 static void base_without_first(uint8_t *block) {
     base_meters(block);
     base_behind_first(block);
+}
+
+/* How many records are held: none, some, as many after a Finish that leaves each to another, and with records in both counts. */
+static void holds(void) {
+    fresh(now, "11");
+    fresh(due, "11");
+    HOLDS(0, 0, 0);
+    start();
+    HOLDS(2, 2, 4);
+    /* 1.1 leaves, and 2.1 still writes 10 */
+    base_without_first(due);
+    PLAIN(FINISH(1, 1), DAMSONPOUCH_DONE);
+    HOLDS(2, 2, 4);
+    /* one entry; then another, which reads what it writes and writes what it reads */
+    fresh(now, "12");
+    serials(now, 2, 2);
+    entry(now, 2, 1, FREE, 0, 0, "\x05", "\x0a\x0c");
+    memcpy(due, now, LENGTH);
+    HOLDS(2, 1, 3);
+    entry(now, 2, 2, BLOCKED, 0, 0, "\x0a", "\x05");
+    memcpy(due, now, LENGTH);
+    HOLDS(3, 2, 3);
 }
 
 static void finishes_and_searches(void) {
@@ -482,6 +591,7 @@ static void refused_15(int line) {
     same_reply(line, SCAN(1), 4, 15, 0, 0, 0, 0);
     same_reply(line, PICK(), 4, 15, 0, 0, 0, 0);
     same_reply(line, DELIVER(1, 2), 4, 15, 0, 0, 0, 0);
+    same_counts(line, HELD(), DAMSONPOUCH_NOT_SOUND, 0, 0, 0);
     if (damsonpouch_sound(now, LENGTH))
         tell(line, "the block is sound");
     same_block(line);
@@ -549,6 +659,7 @@ static void wrong_lengths(void) {
         same_reply(__LINE__, damsonpouch_scan(more, n, 1), 4, 15, 0, 0, 0, 0);
         same_reply(__LINE__, damsonpouch_pick(more, n), 4, 15, 0, 0, 0, 0);
         same_reply(__LINE__, damsonpouch_deliver(more, n, 1, 2), 4, 15, 0, 0, 0, 0);
+        same_counts(__LINE__, damsonpouch_held(more, n), 15, 0, 0, 0);
         if (damsonpouch_sound(more, n))
             tell(__LINE__, "a block of %lu bytes is sound", (unsigned long)n);
         if (memcmp(more, as_it_was, sizeof more) != 0)
@@ -576,6 +687,9 @@ int main(void) {
     grants();
     begins();
     overlaps();
+    clashes_on_every_record();
+    clashes();
+    holds();
     finishes_and_searches();
     picks_and_delivers();
     promotes();

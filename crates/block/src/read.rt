@@ -3,12 +3,13 @@ ghost use mathlib.Core.Path.{_≡_};
 ghost use mathlib.Core.List.{map};
 ghost use Prim.Native.Nat.{_+_, _≤_, _<_};
 ghost use lib.ListN.{length, getD};
+ghost use Rattle.maps.specs.Maps.{Grown};
 ghost use Rattle.entry.specs.Entry.{Stands, Kept};
 ghost use Rattle.meter.specs.View.{meterView};
 ghost use Rattle.queue.specs.Queue.{Holds as Slots};
 ghost use Rattle.block.specs.Block.{SoundBlock};
 ghost use Rattle.block.specs.Clauses.{part, modeOf, requestIn, metersIn, countIn, queueIn};
-ghost use Rattle.block.specs.Read.{Holds};
+ghost use Rattle.block.specs.Read.{Holds, MapsOf};
 use super::bytes;
 use entry::Entry;
 use manager::Said;
@@ -121,6 +122,47 @@ fn entries_from(b: &[u8], n: usize) -> [Entry; 64]
     a
 }
 
+// The maps of the records that the entries write, and that they read.
+struct Marked {
+    written: [u64; 4],
+    read: [u64; 4],
+}
+
+// Adds an entry's records to the maps.
+fn mark<'a>(written: &'a mut [u64; 4], read: &'a mut [u64; 4], p: &'a [u8])
+    requires { ⌜ length (now p) ≡ 24 ⌝ }
+    requires { ⌜ (getD (now p) 6 0 ≤ 8) × (getD (now p) 7 0 ≤ 8) ⌝ }
+    requires { ⌜ (length (now written) ≡ 4) × (length (now read) ≡ 4) ⌝ }
+    ensures { λ _. ⌜ Grown (now (written .entry)) (requestIn (now (p .entry)) .writes) (now (written .exit)) × (length (now (written .exit)) ≡ 4) ⌝ }
+    ensures { λ _. ⌜ Grown (now (read .entry)) (requestIn (now (p .entry)) .reads) (now (read .exit)) × (length (now (read .exit)) ≡ 4) ⌝ }
+{
+    let mid = 8 + bytes::index(p[6]);
+    let end = mid + bytes::index(p[7]);
+    maps::add_each(written, &p[mid..end]);
+    maps::add_each(read, &p[8..mid]);
+}
+
+// The maps are not stored: they are made anew from the entries.
+fn marks_from(b: &[u8], n: usize) -> Marked
+    requires { ⌜ SoundBlock (now b) ⌝ }
+    requires { ⌜ n ≡ countIn (now b) ⌝ }
+    ensures { λ r. ⌜ MapsOf (queueIn (now (b .entry))) (r .written) (r .read) ⌝ }
+{
+    let mut written = maps::none();
+    let mut read = maps::none();
+    let mut i: usize = 0;
+    while i < n {
+        let at = 640 + i * 24;
+        let end = at + 24;
+        mark(&mut written, &mut read, &b[at..end]);
+        i += 1;
+    }
+    Marked {
+        written: written,
+        read: read,
+    }
+}
+
 // The state of a sound block, in which nothing is said yet.
 pub fn state(b: &[u8]) -> State
     requires { ⌜ SoundBlock (now b) ⌝ }
@@ -131,6 +173,9 @@ pub fn state(b: &[u8]) -> State
     let meters = meters_from(b);
     let count = bytes::index(b[639]);
     let entries = entries_from(b, count);
+    let marks = marks_from(b, count);
+    let written = marks.written;
+    let read = marks.read;
     let said = Said {
         answer: Answer::Nothing,
         burnt: 0,
@@ -138,6 +183,8 @@ pub fn state(b: &[u8]) -> State
     State {
         cx: cx,
         cs: cs,
+        written: written,
+        read: read,
         meters: meters,
         count: count,
         entries: entries,

@@ -12,7 +12,7 @@ ghost use Rattle.counters.specs.Counters.{at, Raised, Under, Stocked};
 use entry::Entry;
 
 // A record as an index.
-fn wide(x: u8) -> usize
+pub fn wide(x: u8) -> usize
     ensures { λ r. ⌜ (r ≡ x) × (r < 256) ⌝ }
 {
     x as usize
@@ -103,17 +103,6 @@ pub fn clash<'a>(cx: &'a [u8; 256], cs: &'a [u8; 256], reads: &'a [u8], writes: 
         return true;
     }
     some_above(cs, writes, 0)
-}
-
-// The same verdict on an entry.
-pub fn clashes<'a>(cx: &'a [u8; 256], cs: &'a [u8; 256], e: Entry) -> bool
-    ensures { λ r. ⌜ r ≡ figure2 (at (now (cx .entry))) (at (now (cs .entry))) (request e) ⌝ }
-{
-    let nr = entry::few(e.nr);
-    let nw = entry::few(e.nw);
-    let reads = e.reads;
-    let writes = e.writes;
-    clash(cx, cs, &reads[..nr], &writes[..nw])
 }
 
 // Recheck's condition: every written record has Cx = 1 and Cs = 0, and every read record has Cx = 0.

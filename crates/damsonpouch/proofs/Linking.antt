@@ -8,6 +8,7 @@ use lib.ListN.{length}
 use borrow.Author.Tests.{eqb-true, eqb-false}
 use Rattle.rules.specs.declared.Answer.{Answer}
 use Rattle.rules.specs.Table.{Table}
+use Rattle.rules.specs.Clash.{heldOf}
 use Rattle.rules.specs.Calls.{Outcome}
 use Rattle.rules.specs.Sound.{SoundTable}
 use Rattle.manager.specs.declared.State.{State}
@@ -16,8 +17,9 @@ use Rattle.block.specs.Block.{blockOf, SoundBlock}
 use Rattle.block.specs.Read.{Holds}
 use Rattle.block.proofs.Whole.{block-length, block-tells}
 use Rattle.damsonpouch.specs.declared.Reply.{Reply}
-use Rattle.damsonpouch.specs.Reply.{replyOf, refused15}
-use Rattle.damsonpouch.specs.Linked.{On, Anew, Linked, OneResult, OneVerdict}
+use Rattle.damsonpouch.specs.declared.Held.{Held}
+use Rattle.damsonpouch.specs.Reply.{replyOf, refused15, heldReply, held15}
+use Rattle.damsonpouch.specs.Linked.{On, Anew, Linked, Counted, OneResult, OneVerdict, OneCount}
 
 pub block-whole : {b : List ℕ} → SoundBlock b → length b ≡ 2_176
 block-whole k = ap length (k .is) ∙ block-length (k .of) (k .sound)
@@ -57,6 +59,16 @@ sound-linked call {b} {b'} {s} {n} {r} holds did written said =
 pub opened-linked : (made : Outcome) {b b' : List ℕ} {n : State} {r : Reply} → length b ≡ 2_176 → Did n made → b' ≡ blockOf (view n) → r ≡ replyOf (n .said .answer) (n .said .burnt) → Linked (Anew made) b b' r
 opened-linked made whole did written said = done-linked (record { whole = whole; outcome = refl }) (λ p h. h .outcome) did written said
 
+-- ---- held
+pub unsound-counted : {b : List ℕ} {r : Held} → (SoundBlock b → ⊥) → r ≡ held15 → Counted b r
+unsound-counted wrong is = record { counts = λ t s e. absurd (wrong (record { of = t; sound = s; is = e })); refused = λ z. is }
+
+pub sound-counted : {b : List ℕ} {s : State} {r : Held} → Holds b s → r ≡ heldReply (heldOf (view s)) → Counted b r
+sound-counted {b} {s} {r} holds is = record {
+  counts = λ t sound e. is ∙ ap (λ (u : Table). heldReply (heldOf u)) (block-tells (view s) t (holds .sound .table) sound (sym (holds .is) ∙ e));
+  refused = λ wrong. absurd (wrong (record { of = view s; sound = holds .sound .table; is = holds .is }));
+}
+
 -- ---- one result: whether a block has an outcome need not be decided, since numbers are equal if they are not different
 same-number : (m n : ℕ) → ((m ≡ n → ⊥) → ⊥) → m ≡ n
 same-number m n k = go (eqb m n) refl
@@ -93,10 +105,15 @@ pub one-result : OneResult
 one-result has before after after' r r' l m =
     let agree : (f : Reply → ℕ) → f r ≡ f r' = λ f. same-number (f r) (f r') (λ no. let none : (o : Outcome) → has before o → ⊥ = λ o h. no (ap f (l .reply o h ∙ sym (m .reply o h))) in no (ap f (l .refused none ∙ sym (m .refused none)))) in
     let blocks : after ≡ after' = same-list after after' (λ no. let none : (o : Outcome) → has before o → ⊥ = λ o h. no (l .block o h ∙ sym (m .block o h)) in no (l .kept none ∙ sym (m .kept none))) in
-    (blocks, λ i. record { kind = agree (λ x. x .kind) i; number = agree (λ x. x .number) i; state = agree (λ x. x .state) i; tenant = agree (λ x. x .tenant) i; serial = agree (λ x. x .serial) i; burnt = agree (λ x. x .burnt) i })
+    (blocks, λ i. record { kind = agree (λ x. x .kind) i; number = agree (λ x. x .number) i; state = agree (λ x. x .state) i; tenant = agree (λ x. x .tenant) i; serial = agree (λ x. x .serial) i; clashed = agree (λ x. x .clashed) i; lowest = agree (λ x. x .lowest) i; burnt = agree (λ x. x .burnt) i })
 
 pub one-verdict : OneVerdict
 one-verdict b true true t u = refl
 one-verdict b true false t u = absurd (u .other refl (t .yes refl))
 one-verdict b false true t u = absurd (t .other refl (u .yes refl))
 one-verdict b false false t u = refl
+
+pub one-count : OneCount
+one-count b r r' c d =
+    let agree : (f : Held → ℕ) → f r ≡ f r' = λ f. same-number (f r) (f r') (λ no. let none : SoundBlock b → ⊥ = λ k. no (ap f (c .counts (k .of) (k .sound) (k .is) ∙ sym (d .counts (k .of) (k .sound) (k .is)))) in no (ap f (c .refused none ∙ sym (d .refused none)))) in
+    λ i. record { number = agree (λ x. x .number) i; written = agree (λ x. x .written) i; read = agree (λ x. x .read) i; either = agree (λ x. x .either) i }

@@ -5,12 +5,14 @@ use mathlib.Core.Bool.{Bool}
 use mathlib.Core.List.{List}
 use lib.ListN.{length}
 use Rattle.rules.specs.Table.{Table}
+use Rattle.rules.specs.Clash.{heldOf}
 use Rattle.rules.specs.Calls.{Outcome}
 use Rattle.rules.specs.Sound.{SoundTable}
 use Rattle.block.specs.Block.{blockOf, SoundBlock}
 use Rattle.block.specs.Check.{Tells}
 use Rattle.damsonpouch.specs.declared.Reply.{Reply}
-use Rattle.damsonpouch.specs.Reply.{replyOf, refused15}
+use Rattle.damsonpouch.specs.declared.Held.{Held}
+use Rattle.damsonpouch.specs.Reply.{replyOf, refused15, heldReply, held15}
 
 -- the outcome of a call on a sound block: the law book's, on the table whose block it is
 pub record On (call : Table → Outcome) (b : List ℕ) (o : Outcome) : Type 0 where
@@ -34,6 +36,11 @@ pub record Linked (has : List ℕ → Outcome → Type 0) (before after : List �
   pub kept : ((o : Outcome) → has before o → ⊥) → after ≡ before
   pub refused : ((o : Outcome) → has before o → ⊥) → r ≡ refused15
 
+-- held on a block: the counts of the table whose block it is, and "15 for a block not sound". It is only read.
+pub record Counted (b : List ℕ) (r : Held) : Type 0 where
+  pub counts : (t : Table) → SoundTable t → b ≡ blockOf t → r ≡ heldReply (heldOf t)
+  pub refused : (SoundBlock b → ⊥) → r ≡ held15
+
 -- two results that a contract allows are equal
 abbrev pub OneResult : Type 1
 OneResult =
@@ -45,3 +52,7 @@ OneResult =
 -- and so are two verdicts on a block
 abbrev pub OneVerdict : Type 0
 OneVerdict = (b : List ℕ) (r r' : Bool) → Tells r (SoundBlock b) → Tells r' (SoundBlock b) → r ≡ r'
+
+-- and two counts
+abbrev pub OneCount : Type 0
+OneCount = (b : List ℕ) (r r' : Held) → Counted b r → Counted b r' → r ≡ r'

@@ -1,4 +1,4 @@
-// The eight calls on a lent block, and the check, for a host in Rust or C to link. Each takes any bytes, any numbers and lists of
+// The eight calls on a lent block, held, and the check, for a host in Rust or C to link. Each takes any bytes, any numbers and lists of
 // any length. A call on a block that is not sound is refused with 15, burns nothing and writes nothing; on a sound block it does
 // to the block what the manager's call does to the state.
 ghost use mathlib.Core.Path.{_≡_};
@@ -9,12 +9,13 @@ ghost use Rattle.manager.specs.State.{view, Sound};
 ghost use Rattle.block.specs.Block.{blockOf, SoundBlock};
 ghost use Rattle.block.specs.Check.{Tells};
 ghost use Rattle.damsonpouch.specs.Reply.{replyOf, refused15};
-ghost use Rattle.damsonpouch.specs.Linked.{Linked, On, Anew};
+ghost use Rattle.damsonpouch.specs.Linked.{Linked, On, Anew, Counted};
 use manager::State;
 use rules::Answer;
 
 // A reply in numbers. Kind: 0 ok, 1 done, 2 still, 3 nothing, 4 refused, with its number, 5 an entry's state (0 Free, 1 Waiting,
-// 2 Blocked) and name. What a kind does not have is 0.
+// 2 Blocked) and name. Clashed is 1 in the reply of a Begin that is Blocked, and lowest is then the lowest record that it clashed
+// on. What a kind does not have is 0.
 #[repr(C)]
 pub struct Reply {
     pub kind: u8,
@@ -22,11 +23,13 @@ pub struct Reply {
     pub state: u8,
     pub tenant: u8,
     pub serial: u16,
+    pub clashed: u8,
+    pub lowest: u8,
     pub burnt: u32,
 }
 
 fn unnamed(kind: u8, number: u8, burnt: u32) -> Reply
-    ensures { λ r. ⌜ r ≡ record { kind = kind; number = number; state = 0; tenant = 0; serial = 0; burnt = burnt } ⌝ }
+    ensures { λ r. ⌜ r ≡ record { kind = kind; number = number; state = 0; tenant = 0; serial = 0; clashed = 0; lowest = 0; burnt = burnt } ⌝ }
 {
     Reply {
         kind: kind,
@@ -34,6 +37,8 @@ fn unnamed(kind: u8, number: u8, burnt: u32) -> Reply
         state: 0,
         tenant: 0,
         serial: 0,
+        clashed: 0,
+        lowest: 0,
         burnt: burnt,
     }
 }
@@ -56,9 +61,21 @@ fn in_numbers(answer: Answer, burnt: u32) -> Reply
                 state: state,
                 tenant: who,
                 serial: serial,
+                clashed: 0,
+                lowest: 0,
                 burnt: burnt,
             }
         }
+        Answer::BlockedOn(who, serial, r) => Reply {
+            kind: 5,
+            number: 0,
+            state: 2,
+            tenant: who,
+            serial: serial,
+            clashed: 1,
+            lowest: r,
+            burnt: burnt,
+        },
     }
 }
 
@@ -88,6 +105,39 @@ pub extern "C" fn damsonpouch_sound(b: &[u8]) -> bool
     ensures { λ r. ⌜ Tells r (SoundBlock (now (b .entry))) ⌝ }
 {
     block::check::sound(b)
+}
+
+// How many records are held: written by some queued entry, read by some, and either. The number is 0, or 15, and the counts then
+// are 0.
+#[repr(C)]
+pub struct Held {
+    pub number: u8,
+    pub written: u16,
+    pub read: u16,
+    pub either: u16,
+}
+
+// The block is only read.
+#[no_mangle]
+pub extern "C" fn damsonpouch_held(b: &[u8]) -> Held
+    ensures { λ r. ⌜ Counted (now (b .entry)) r ⌝ }
+{
+    if !block::check::sound(b) {
+        return Held {
+            number: 15,
+            written: 0,
+            read: 0,
+            either: 0,
+        };
+    }
+    let s = block::read::state(b);
+    let t = manager::held::held(s);
+    Held {
+        number: 0,
+        written: t.written,
+        read: t.read,
+        either: t.either,
+    }
 }
 
 // Open overwrites any block of the right length.

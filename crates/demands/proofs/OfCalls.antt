@@ -2,12 +2,14 @@
 use Prim.Native.Nat.{ℕ, _+_, _≤_}
 use mathlib.Core.Path.{_≡_, sym, ap, subst, _∙_}
 use mathlib.Core.Bool.{false}
-use lib.Dec.{eqb}
+use mathlib.Core.List.{[]}
+use lib.Dec.{eqb, ltb}
 use Rattle.rules.specs.declared.Answer.the-variants.{Nothing, Refused, Named}
 use Rattle.rules.specs.Lists.{total}
 use Rattle.rules.specs.Table.{Table}
 use Rattle.rules.specs.Prices.{clause9, searching}
 use Rattle.rules.specs.Calls.{Outcome as LawOutcome, asked, search}
+use Rattle.rules.specs.Said.{said}
 use Rattle.rules.specs.Runs.{Call, step, callerOf, isOpen, number}
 use Rattle.rules.specs.Runs.Call.{Begin, Finish, Scan, Open, Pick}
 use Rattle.rules.specs.Sound.{SoundAny}
@@ -16,6 +18,7 @@ use Rattle.promises.specs.Fuel.{recordsIn, Costs9, Pays, Gains}
 use Rattle.promises.specs.Refused.{SameButFuel, Refusal, RefusedOpen}
 use Rattle.promises.specs.Searches.{Promoting, LookedAtAll, CutShort}
 use Rattle.promises.specs.Places.{Joins, Leaves, FrontRuns}
+use Rattle.promises.specs.Reports.{ReportOf}
 use Rattle.promises.specs.Promises.{Promises}
 use Rattle.promises.proofs.Promises.{at-clause9}
 use Rattle.manager.specs.declared.State.{State}
@@ -68,7 +71,11 @@ module _ (s : CodeStep) (m : Made s) where
       outcome = did-seen (m .did);
       exclusive = m .did .sound .tied .writers .each;
       shared = m .did .sound .tied .readers .each;
+      written = λ r lt. let tied = m .did .sound .tied in tied .written .each r lt ∙ ap (ltb 0) (tied .writers .each r lt);
+      read = λ r lt. let tied = m .did .sound .tied in tied .read .each r lt ∙ ap (ltb 0) (tied .readers .each r lt);
     };
+    reports = λ who awaited reads writes is. seen-as (λ o. number o ≡ 0 → ReportOf (t .queue) (asked t who awaited reads writes) (o .answer)) (Begin who awaited reads writes) is (promised .reports t who awaited reads writes);
+    reports-none = λ other. seen-by (λ o. said (o .answer) .clash ≡ []) (promised .begin-alone t (s .call) other);
     search-promotes = λ who at is tenant first enough. seen-as (Promoting clause9 who t at) (Scan who) is (promised .search-promotes t who at tenant first enough);
     search-names = λ who mode tenant serial is. seen-as (λ o. o .answer ≡ Named mode tenant serial → (at : ℕ) × Promoting clause9 who t at o) (Scan who) is (promised .search-names t who mode tenant serial);
     search-reports-none = λ who is. seen-as (λ o. o .answer ≡ Nothing → LookedAtAll clause9 who t o) (Scan who) is (promised .search-nothing t who);

@@ -1,14 +1,12 @@
 -- What the promises say of the law book's runs, they say of the real ones, which are those seen through the view.
-use Prim.Native.Nat.{_+_}
+use Prim.Native.Nat.{ℕ}
 use mathlib.Core.Path.{_≡_, sym, ap, subst, _∙_}
 use mathlib.Core.Bool.{false}
 use mathlib.Core.List.{List}
-use Rattle.rules.specs.declared.Mode.the-variants.{Blocked}
-use Rattle.rules.specs.declared.Answer.the-variants.{Named}
 use Rattle.rules.specs.Prices.{clause9}
 use Rattle.rules.specs.Table.{Table}
 use Rattle.rules.specs.Calls.{Outcome}
-use Rattle.rules.specs.Sound.{Each, givenBy}
+use Rattle.rules.specs.Sound.{Each}
 use Rattle.rules.specs.Runs.{Call, Run, step, isOpen, runOf}
 use Rattle.rules.proofs.Tests.{if-either}
 use Rattle.rules.proofs.Order.{each-map}
@@ -16,7 +14,7 @@ use Rattle.rules.proofs.Sound.{sound-any}
 use Rattle.promises.specs.Fuel.{PricesPaid, Balanced, Counted}
 use Rattle.promises.specs.Names.{NamesDiffer, HasLeft, isQueued}
 use Rattle.promises.specs.Drains.{NoneHangs, draining, Drained}
-use Rattle.promises.specs.Sales.{Ask, begin, meeting, Meet}
+use Rattle.promises.specs.Sales.{Ask, begin, HeldUp, meeting, Meet}
 use Rattle.promises.specs.Promises.{Promises}
 use Rattle.promises.proofs.Promises.{at-clause9}
 use Rattle.manager.specs.declared.State.{State}
@@ -33,9 +31,9 @@ ran-made uncalled h all = all
 ran-made {run} (called c r d more) h all =
     ran-made more (d .sound) (if-either (Each Made) (isOpen c) Each.none (Each.also (record { sound = h; did = d }) all))
 
--- the law book's Begin at this table is Blocked
-abbrev Waits : Ask → Table → Type 0
-Waits b t = step clause9 t (begin b) .answer ≡ Named Blocked (b .who) (givenBy t (b .who) + 1)
+-- the law book's Begin at this table is held up
+abbrev Waits : Ask → ℕ → Table → Type 0
+Waits b r t = HeldUp b t r (step clause9 t (begin b) .answer)
 
 pub every-run : EveryRun
 every-run shares first cs rs last real =
@@ -57,7 +55,7 @@ every-run shares first cs rs last real =
           let t = view (last .state) in
           subst (Drained t (draining (t .queue))) (ran-run ran) (promised .drains t (sound-any (faithful .last-sound .table)));
       second-sale = λ a b between r outcomes end gave ran did met share.
-          let law = of (λ run. Meet clause9 run a b between → Waits b (meeting clause9 run a between)) (λ m. promised .second-waits shares cs between a b r m share) in
-          let waits = subst (λ run. Waits b (run .table)) (ran-run ran) (law met) in
-          ap (λ (o : Outcome). o .answer) (did-seen did) ∙ waits;
+          let law = of (λ run. Meet clause9 run a b between → Waits b r (meeting clause9 run a between)) (λ m. promised .second-waits shares cs between a b r m share) in
+          let waits = subst (λ run. Waits b r (run .table)) (ran-run ran) (law met) in
+          (waits .0, ap (λ (o : Outcome). o .answer) (did-seen did) ∙ waits .1, waits .2);
     }

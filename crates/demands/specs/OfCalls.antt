@@ -4,23 +4,27 @@
 use Prim.Native.Nat.{ℕ, _+_, _≤_, _<_}
 use mathlib.Core.Path.{_≡_}
 use mathlib.Core.Bool.{true, false}
-use mathlib.Core.List.{List}
-use lib.Dec.{eqb}
+use mathlib.Core.List.{List, []}
+use lib.Dec.{eqb, ltb}
 use lib.ListN.{take}
 use Rattle.rules.specs.declared.Mode.{Mode}
 use Rattle.rules.specs.declared.Answer.the-variants.{Nothing, Refused, Named}
 use Rattle.rules.specs.Lists.{total}
 use Rattle.rules.specs.Request.{Request}
 use Rattle.rules.specs.Table.{Table, isTenant, meterOf, placesOf}
+use Rattle.rules.specs.CallTable.{isRequest}
 use Rattle.rules.specs.Prices.{clause9, pricesOf, searching}
 use Rattle.rules.specs.Counters.{cx, cs}
 use Rattle.rules.specs.Calls.{Outcome as LawOutcome, asked, search}
+use Rattle.rules.specs.Said.{said}
 use Rattle.rules.specs.Runs.{step, roleOf, callerOf, isOpen, number}
 use Rattle.rules.specs.Runs.Call.{Begin, Finish, Scan, Open, Pick}
 use Rattle.promises.specs.Fuel.{fuelOf, recordsIn, tableCharge, Costs9, Pays, Gains}
 use Rattle.promises.specs.Refused.{RefusedOpen}
 use Rattle.promises.specs.Searches.{FirstReady, Promoting, LookedAtAll, CutShort}
 use Rattle.promises.specs.Places.{MayJoin, Joins, MayLeave, Leaves, BlockedFront, FrontRuns}
+use Rattle.promises.specs.Reports.{ReportOf}
+use Rattle.maps.specs.Maps.{inMap}
 use Rattle.counters.specs.Counters.{at}
 use Rattle.manager.specs.declared.State.{State}
 use Rattle.manager.specs.State.{view, Sound}
@@ -76,6 +80,21 @@ pub record ByTheRules (s : CodeStep) : Type 0 where
   pub outcome : outcomeOf s ≡ step (pricesOf (tableOf s)) (tableOf s) (s .call)
   pub exclusive : (r : ℕ) → r < 256 → at (s .gave .cx) r ≡ cx (view (s .gave) .queue) r
   pub shared : (r : ℕ) → r < 256 → at (s .gave .cs) r ≡ cs (view (s .gave) .queue) r
+  -- document 02, item 5: "two maps of 256 bits, of records with Cx above 0 and with Cs above 0, right after every call"
+  pub written : (r : ℕ) → r < 256 → inMap (s .gave .written) r ≡ ltb 0 (cx (view (s .gave) .queue) r)
+  pub read : (r : ℕ) → r < 256 → inMap (s .gave .read) r ≡ ltb 0 (cs (view (s .gave) .queue) r)
+
+-- item 5: an admitted Begin is Blocked exactly if a record holds it up, and reports the lowest; no other call reports one
+abbrev pub Reporting : CodeStep → Type 0
+Reporting s =
+    (who awaited : ℕ) (reads writes : List ℕ) →
+    let t = tableOf s in
+    s .call ≡ Begin who awaited reads writes →
+    number (outcomeOf s) ≡ 0 →
+    ReportOf (t .queue) (asked t who awaited reads writes) (s .gave .said .answer)
+
+abbrev pub ReportsNone : CodeStep → Type 0
+ReportsNone s = isRequest (roleOf (s .call)) ≡ false → said (s .gave .said .answer) .clash ≡ []
 
 -- "A search with fuel to finish promotes the caller's first blocked request that conflicts with nothing ahead of it"
 abbrev pub SearchPromotes : CodeStep → Type 0
@@ -178,6 +197,8 @@ pub record OfCall (s : CodeStep) : Type 0 where
   pub never-five : eqb (number (outcomeOf s)) 5 ≡ false
   -- demand 2
   pub rules : ByTheRules s
+  pub reports : Reporting s
+  pub reports-none : ReportsNone s
   pub search-promotes : SearchPromotes s
   pub search-names : SearchNames s
   pub search-reports-none : SearchReportsNone s

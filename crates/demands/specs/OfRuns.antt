@@ -1,20 +1,18 @@
 -- The demands, over any run of the real calls from an opening, "with neighbours calling as they like". `seenRun` is the run with
 -- its states seen as tables: the calls, the answers and the units burnt in it are the code's own.
-use Prim.Native.Nat.{ℕ, _+_}
+use Prim.Native.Nat.{ℕ}
 use mathlib.Core.Path.{_≡_}
 use mathlib.Core.Bool.{true, false, not}
 use mathlib.Core.List.{List, _∷_}
-use Rattle.rules.specs.declared.Mode.the-variants.{Blocked}
-use Rattle.rules.specs.declared.Answer.the-variants.{Named}
 use Rattle.rules.specs.Lists.{every}
 use Rattle.rules.specs.Table.{isTenant}
 use Rattle.rules.specs.Prices.{clause9}
-use Rattle.rules.specs.Sound.{Each, givenBy}
+use Rattle.rules.specs.Sound.{Each}
 use Rattle.rules.specs.Runs.{Call, isOpen}
 use Rattle.promises.specs.Fuel.{PricesPaid, Balanced, Counted}
 use Rattle.promises.specs.Names.{NamesDiffer, HasLeft, isQueued}
 use Rattle.promises.specs.Drains.{NoneHangs, draining, Drained}
-use Rattle.promises.specs.Sales.{Ask, begin, shareOne, Meet}
+use Rattle.promises.specs.Sales.{Ask, begin, shareOne, HeldUp, Meet}
 use Rattle.manager.specs.declared.State.{State}
 use Rattle.manager.specs.State.{view, Sound}
 use Rattle.manager.specs.Runs.{CodeRun, codeOpened, DidCall, Ran, RealRun, seenRun}
@@ -38,7 +36,7 @@ CanDrain s =
     Drained (view s) calls (seenRun end)
 
 -- document 02, item 4: of two requests that are admitted one after the other, the first still in the queue, and that share a record
--- which one of them sells, the second is Blocked
+-- which one of them sells, the second is Blocked, and is told of that record or of a lower one
 abbrev pub SecondSale : CodeRun → Type 0
 SecondSale last =
     (a b : Ask) (between : List Call) (r : ℕ) (rs : List State) (end : CodeRun) (gave : State) →
@@ -46,7 +44,7 @@ SecondSale last =
     DidCall (end .state) (begin b) gave →
     Meet clause9 (seenRun last) a b between →
     shareOne r a b ≡ true →
-    gave .said .answer ≡ Named Blocked (b .who) (givenBy (view (end .state)) (b .who) + 1)
+    HeldUp b (view (end .state)) r (gave .said .answer)
 
 pub record OfRun (last : CodeRun) : Type 0 where
   -- every call since the opening, and the state now

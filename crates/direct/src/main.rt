@@ -1,5 +1,5 @@
-// Makes the eight calls directly, each on the state that the one before gave back, and prints a line for each. It reaches
-// what no event file can: refusal 8, and shares that are not 16.
+// Makes the eight calls and held directly, each on the state that the one before gave back, and prints a line for each. It
+// reaches what no event file can: refusal 8, shares that are not 16, and held.
 ghost use Prim.Native.Nat.{_≤_};
 ghost use Rattle.manager.specs.State.{Sound};
 use libc::STDOUT_FILENO;
@@ -103,6 +103,20 @@ fn deliver(number: u32, s: State, who: u8, serial: u16) -> State
     told(number, Kind::Deliver, who, next)
 }
 
+// Prints how many records are held: written, read, and either.
+fn held(s: State)
+    requires { ⌜ Sound s ⌝ }
+{
+    let t = manager::held::held(s);
+    io::write_all(STDOUT_FILENO, b"held ");
+    io::print_decimal(STDOUT_FILENO, t.written as u64);
+    io::write_all(STDOUT_FILENO, b" ");
+    io::print_decimal(STDOUT_FILENO, t.read as u64);
+    io::write_all(STDOUT_FILENO, b" ");
+    io::print_decimal(STDOUT_FILENO, t.either as u64);
+    io::write_all(STDOUT_FILENO, b"\n");
+}
+
 // Writes the word of a verdict.
 fn say(clear: bool) {
     if clear {
@@ -179,8 +193,10 @@ fn calls() -> State
     let s = begin(6, s, 2, 0, &[], &[10, 12]);
     let s = begin(7, s, 2, 0, &[], &[12]);
     verdicts(s);
+    held(s);
     let s = recheck(8, s, 2, 1);
     let s = finish(9, s, 1, 1);
+    held(s);
     let s = scan(10, s, 2);
     let s = recheck(11, s, 2, 2);
     let s = finish(12, s, 2, 1);
@@ -361,6 +377,33 @@ fn sales(s: State) -> State
     finish(115, s, 2, 4)
 }
 
+// Requests that clash at the borders of the words of a map, at the first record and at the last; and a record that is still held
+// when one of those at it has left.
+fn borders() -> State
+    ensures { λ r. ⌜ Sound r ⌝ }
+{
+    let s = open(116, &[4, 6, 0, 0, 0, 0, 0, 0, 0, 0, 0, 0, 0, 0, 0, 0]);
+    let s = grant(117, s, 1, 200);
+    let s = grant(118, s, 2, 200);
+    held(s);
+    let s = begin(119, s, 1, 0, &[], &[0, 64, 128, 192]);
+    let s = begin(120, s, 1, 0, &[63, 127, 191, 255], &[]);
+    let s = begin(121, s, 2, 0, &[63, 255], &[]);
+    let s = begin(122, s, 2, 0, &[192], &[255]);
+    let s = begin(123, s, 2, 0, &[62, 63, 65], &[127, 191]);
+    let s = begin(124, s, 2, 2, &[0, 1], &[2, 64]);
+    held(s);
+    let s = deliver(125, s, 2, 4);
+    let s = finish(126, s, 1, 1);
+    held(s);
+    let s = begin(127, s, 1, 0, &[128], &[192]);
+    let s = finish(128, s, 1, 2);
+    held(s);
+    let s = begin(129, s, 1, 0, &[62], &[63, 126]);
+    let s = scan(130, s, 2);
+    finish(131, s, 2, 1)
+}
+
 fn main() {
     put(listing::header());
     let s = calls();
@@ -374,4 +417,6 @@ fn main() {
     let s = numbered();
     let s = afterwards(s);
     sales(s);
+    let s = borders();
+    held(s);
 }

@@ -26,25 +26,33 @@ point = 46
 abbrev pub dash : ℕ
 dash = 45
 
+abbrev pub atSign : ℕ
+atSign = 64
+
 -- "call (its name in small letters; a second tag for the same call prints the same name)", by the table of calls; "A file
 -- refusal prints the call file"
 abbrev pub nameOf : Name → List ℕ
 nameOf (Call kind) = rowOf kind .name
 nameOf File = 102 ∷ 105 ∷ 108 ∷ 101 ∷ []
 
--- a point before each number
-abbrev pub dotted : List ℕ → List ℕ
-dotted [] = []
-dotted (n ∷ ns) = point ∷ decimal n ++ dotted ns
+-- a point before each number, and a text behind them
+abbrev pub dotted : List ℕ → List ℕ → List ℕ
+dotted [] text = text
+dotted (n ∷ ns) text = point ∷ decimal n ++ dotted ns text
 
 -- a colon before the first number, and a point before each later one
-abbrev pub behind : List ℕ → List ℕ
-behind [] = []
-behind (n ∷ ns) = colon ∷ decimal n ++ dotted ns
+abbrev pub behind : List ℕ → List ℕ → List ℕ
+behind [] text = text
+behind (n ∷ ns) text = colon ∷ decimal n ++ dotted ns text
+
+-- document 02, item 5: "The listing's blocked answer at Begin gains @ and the record"
+abbrev pub clashText : List ℕ → List ℕ
+clashText [] = []
+clashText (r ∷ rs) = atSign ∷ decimal r
 
 -- "answer (ok, done, still, nothing, refused: and number, or state:tenant.serial)"
 unfoldable pub answerText : Answer → List ℕ
-answerText answer = said answer .word ++ behind (said answer .values)
+answerText answer = said answer .word ++ behind (said answer .values) (clashText (said answer .clash))
 
 -- "the named tenant's fuel afterwards, or - with no valid tenant named"
 unfoldable pub leftText : Left → List ℕ

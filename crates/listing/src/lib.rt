@@ -2,7 +2,7 @@
 ghost use mathlib.Core.List.{[], _∷_};
 ghost use Prim.Native.Nat.{_+_, _≤_, _<_};
 ghost use lib.ListN.{length};
-ghost use Rattle.rules.specs.declared.Answer.the-variants.{Refused, Named};
+ghost use Rattle.rules.specs.declared.Answer.the-variants.{Refused, Named, BlockedOn};
 ghost use Rattle.rules.specs.CallTable.{rowOf};
 ghost use Rattle.rules.specs.Said.{wordOf};
 ghost use Rattle.listing.specs.Decimal.{decimal};
@@ -12,7 +12,7 @@ use rules::Answer;
 use rules::Kind;
 use rules::Mode;
 
-// The first `len` bytes are the line, with its line feed. The longest has 10 + 1 + 7 + 1 + 17 + 1 + 10 + 1 + 10 + 1 = 59.
+// The first `len` bytes are the line, with its line feed. The longest has 10 + 1 + 7 + 1 + 21 + 1 + 10 + 1 + 10 + 1 = 63.
 pub struct Line {
     pub len: usize,
     pub bytes: [u8; 64],
@@ -168,11 +168,21 @@ fn with_named(l: Line, mode: Mode, tenant: u8, serial: u16) -> Line
     with_number(owner, serial as u32)
 }
 
+// The line with a Blocked entry behind it, `@` and the record that it clashed on.
+fn with_clash(l: Line, tenant: u8, serial: u16, on: u8) -> Line
+    requires { ⌜ l .len + 21 ≤ 64 ⌝ }
+    ensures { λ r. ⌜ Appended l (answerText (BlockedOn tenant serial on)) r ⌝ }
+    ensures { λ r. ⌜ length (answerText (BlockedOn tenant serial on)) ≤ 21 ⌝ }
+{
+    let entry = with_named(l, Mode::Blocked, tenant, serial);
+    with_number(with_byte(entry, b'@'), on as u32)
+}
+
 // The line with an answer behind it.
 fn with_answer(l: Line, answer: Answer) -> Line
-    requires { ⌜ l .len + 17 ≤ 64 ⌝ }
+    requires { ⌜ l .len + 21 ≤ 64 ⌝ }
     ensures { λ r. ⌜ Appended l (answerText answer) r ⌝ }
-    ensures { λ r. ⌜ length (answerText answer) ≤ 17 ⌝ }
+    ensures { λ r. ⌜ length (answerText answer) ≤ 21 ⌝ }
 {
     match answer {
         Answer::Ok => with_text(l, b"ok"),
@@ -181,6 +191,7 @@ fn with_answer(l: Line, answer: Answer) -> Line
         Answer::Nothing => with_text(l, b"nothing"),
         Answer::Refused(number) => with_refused(l, number),
         Answer::Named(mode, tenant, serial) => with_named(l, mode, tenant, serial),
+        Answer::BlockedOn(tenant, serial, on) => with_clash(l, tenant, serial, on),
     }
 }
 

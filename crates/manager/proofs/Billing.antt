@@ -32,7 +32,7 @@ bill-none all who number none = record { meters = rw none refl; answer = refl; b
 
 -- ---- the state with what the bill says
 abbrev pub billing : State → Bill → State
-billing s b = record { cx = s .cx; cs = s .cs; meters = b .meters; count = s .count; entries = s .entries; said = b .said }
+billing s b = record { cx = s .cx; cs = s .cs; written = s .written; read = s .read; meters = b .meters; count = s .count; entries = s .entries; said = b .said }
 
 module _ {s : State} (h : Sound s) (who number : ℕ) (outside : isTenant who ≡ false → number ≡ 1) {b : Bill} (p : Billed (s .meters) who number b) where
   abbrev units : ℕ
@@ -41,7 +41,7 @@ module _ {s : State} (h : Sound s) (who number : ℕ) (outside : isTenant who �
   becomes : map meterView (b .meters) ≡ burn who units (view s) .meters → Becomes (burn who units (view s)) (billing s b)
   becomes same = record {
     is = ap (λ (ms : List LawMeter). record { meters = ms; queue = view s .queue }) same;
-    tied = record { writers = h .tied .writers; readers = h .tied .readers; neat = h .tied .neat };
+    tied = record { writers = h .tied .writers; readers = h .tied .readers; written = h .tied .written; read = h .tied .read; neat = h .tied .neat };
   }
 
   pub billed-did : Did (billing s b) (refusedWith (view s) who number)

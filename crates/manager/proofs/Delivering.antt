@@ -33,11 +33,11 @@ module _ {s : State} (h : Sound s) (k : Slotted s) (who serial : ℕ) {at : ℕ}
   pub is-due : 0 < getD (s .entries) at blank .due
   is-due = rw (ap (λ (e : Request). e .due) (entry-is (k .slots) who serial place (used k there))) (above-zero _ (eqb-false _ 0 (passes .1)))
 
-  pub delivers : {p : Entry} → Stands (delivered (request (getD (s .entries) at blank))) p → (said : Said) → said .answer ≡ named (request p) → said .burnt ≡ 0 → Did (record { cx = s .cx; cs = s .cs; meters = s .meters; count = s .count; entries = set (s .entries) at p; said = said }) (deliverOf (view s) who serial)
+  pub delivers : {p : Entry} → Stands (delivered (request (getD (s .entries) at blank))) p → (said : Said) → said .answer ≡ named (request p) → said .burnt ≡ 0 → Did (record { cx = s .cx; cs = s .cs; written = s .written; read = s .read; meters = s .meters; count = s .count; entries = set (s .entries) at p; said = said }) (deliverOf (view s) who serial)
   unfolding deliverOf
   delivers {p} stands said says burnt =
       let t = view s in
-      let next : State = record { cx = s .cx; cs = s .cs; meters = s .meters; count = s .count; entries = set (s .entries) at p; said = said } in
+      let next : State = record { cx = s .cx; cs = s .cs; written = s .written; read = s .read; meters = s .meters; count = s .count; entries = set (s .entries) at p; said = said } in
       let made = makes-becomes (h .tied) k delivered delivered-lists (used k there) stands said in
       host-done t _ none
       (delivery-sound (h .table) (standsAt who serial (t .queue)) (here who serial (t .queue) (passes .0)) (passes .1))

@@ -15,13 +15,14 @@ use Rattle.meter.specs.View.{meterView}
 use Rattle.entry.specs.declared.Entry.{Entry}
 use Rattle.entry.specs.Entry.{blank, request, Stands}
 use Rattle.entry.proofs.Typed.{Lists, few-take}
-use Rattle.counters.specs.Counters.{Raised, Stocked, Counts}
+use Rattle.counters.specs.Counters.{Stocked, Counts}
 use Rattle.counters.proofs.Laws.{counts-raised, counts-stocked, counts-lowered}
 use Rattle.queue.specs.Queue.{Queue, Holds}
 use Rattle.queue.proofs.Views.{requests-length, request-at, replaced-holds}
 use Rattle.manager.specs.declared.Said.{Said}
 use Rattle.manager.specs.declared.State.{State}
-use Rattle.manager.specs.State.{view, Tied, Becomes}
+use Rattle.manager.specs.State.{view, Marks, Tied, Becomes}
+use Rattle.manager.proofs.Marking.{Rises, Falls, marks-raised, marks-lowered}
 use Rattle.manager.proofs.Slots.{Slotted}
 
 -- the same records read and written
@@ -44,18 +45,30 @@ module _ {r : Request} {e : Entry} (h : Stands r e) (l : Lists e) where
   pub writes-are : (few : ℕ) → few ≡ min (e .nw) 8 → take few (e .writes) ≡ r .writes
   writes-are few k = few-take (e .nw) few (l .writes) k ∙ ap (λ (a : Request). a .writes) (h .is)
 
+-- the counters of a list of requests, and the maps of those above 0
+pub record Counted (l : List Request) (x y v w : List ℕ) : Type 0 where
+  pub writers : Counts (λ e. e .writes) x l
+  pub readers : Counts (λ e. e .reads) y l
+  pub written : Marks v x
+  pub read : Marks w y
+
 -- a state whose queue holds another list
-pub queue-becomes : {x y : List ℕ} {q : Queue} {l : List Request} {said : Said} (ms : List Meter) → Holds l q → Counts (λ e. e .writes) x l → Counts (λ e. e .reads) y l → Becomes (record { meters = map meterView ms; queue = l }) (record { cx = x; cs = y; meters = ms; count = q .count; entries = q .entries; said = said })
-queue-becomes {x} {y} {q} {l} {said} ms h w r = record {
+pub queue-becomes : {x y v w : List ℕ} {q : Queue} {l : List Request} {said : Said} (ms : List Meter) → Holds l q → Counted l x y v w → Becomes (record { meters = map meterView ms; queue = l }) (record { cx = x; cs = y; written = v; read = w; meters = ms; count = q .count; entries = q .entries; said = said })
+queue-becomes {x} {y} {v} {w} {q} {l} {said} ms h c = record {
   is = ap (λ (t : List Request). record { meters = map meterView ms; queue = t }) (h .list);
-  tied = record { writers = subst (Counts (λ e. e .writes) x) (sym (h .list)) w; readers = subst (Counts (λ e. e .reads) y) (sym (h .list)) r; neat = h .neat };
+  tied = record { writers = subst (Counts (λ e. e .writes) x) (sym (h .list)) (c .writers); readers = subst (Counts (λ e. e .reads) y) (sym (h .list)) (c .readers); written = c .written; read = c .read; neat = h .neat };
 }
 
 module _ {s : State} (t : Tied s) where
   -- an entry joins the back
-  pub joins-becomes : {x y : List ℕ} {q : Queue} {said : Said} (ms : List Meter) (e : Request) → Stored (e .reads) (e .writes) → Raised (s .cx) (e .writes) x → Raised (s .cs) (e .reads) y → Holds (view s .queue ++ e ∷ []) q → Becomes (record { meters = map meterView ms; queue = view s .queue ++ e ∷ [] }) (record { cx = x; cs = y; meters = ms; count = q .count; entries = q .entries; said = said })
+  pub joins-becomes : {x y v w : List ℕ} {q : Queue} {said : Said} (ms : List Meter) (e : Request) → Stored (e .reads) (e .writes) → Rises (s .cx) (s .written) (e .writes) x v → Rises (s .cs) (s .read) (e .reads) y w → Holds (view s .queue ++ e ∷ []) q → Becomes (record { meters = map meterView ms; queue = view s .queue ++ e ∷ [] }) (record { cx = x; cs = y; written = v; read = w; meters = ms; count = q .count; entries = q .entries; said = said })
   joins-becomes ms e f x y h =
-      queue-becomes ms h (counts-raised (λ a. a .writes) e (f .writes-rise) (t .writers) x) (counts-raised (λ a. a .reads) e (f .reads-rise) (t .readers) y)
+      queue-becomes ms h (record {
+        writers = counts-raised (λ a. a .writes) e (f .writes-rise) (t .writers) (x .counters);
+        readers = counts-raised (λ a. a .reads) e (f .reads-rise) (t .readers) (y .counters);
+        written = marks-raised (t .written) (x .map) (x .counters);
+        read = marks-raised (t .read) (y .map) (y .counters);
+      })
 
   module _ (i : ℕ) (there : i < length (view s .queue)) where
     -- an entry leaves
@@ -66,9 +79,14 @@ module _ {s : State} (t : Tied s) where
       pub reads-stocked : Stocked (s .cs) (getD (view s .queue) i nobody .reads)
       reads-stocked = counts-stocked (λ a. a .reads) i there (f .reads-rise) (t .readers)
 
-      pub leaves-becomes : {x y : List ℕ} {q : Queue} {said : Said} → Raised x (getD (view s .queue) i nobody .writes) (s .cx) → Raised y (getD (view s .queue) i nobody .reads) (s .cs) → Holds (withoutEntry i (view s .queue)) q → Becomes (withQueue (view s) (withoutEntry i (view s .queue))) (record { cx = x; cs = y; meters = s .meters; count = q .count; entries = q .entries; said = said })
+      pub leaves-becomes : {x y v w : List ℕ} {q : Queue} {said : Said} → Falls (s .cx) (s .written) (getD (view s .queue) i nobody .writes) x v → Falls (s .cs) (s .read) (getD (view s .queue) i nobody .reads) y w → Holds (withoutEntry i (view s .queue)) q → Becomes (withQueue (view s) (withoutEntry i (view s .queue))) (record { cx = x; cs = y; written = v; read = w; meters = s .meters; count = q .count; entries = q .entries; said = said })
       leaves-becomes x y h =
-          queue-becomes (s .meters) h (counts-lowered (λ a. a .writes) i there (f .writes-rise) (t .writers) x) (counts-lowered (λ a. a .reads) i there (f .reads-rise) (t .readers) y)
+          queue-becomes (s .meters) h (record {
+            writers = counts-lowered (λ a. a .writes) i there (f .writes-rise) (t .writers) (x .counters);
+            readers = counts-lowered (λ a. a .reads) i there (f .reads-rise) (t .readers) (y .counters);
+            written = marks-lowered (t .written) (x .counters) (x .map);
+            read = marks-lowered (t .read) (y .counters) (y .map);
+          })
 
     -- an entry is changed, its lists the same
     still-counts : (of : Request → List ℕ) {c : List ℕ} (e : Request) → of e ≡ of (getD (view s .queue) i nobody) → Counts of c (view s .queue) → Counts of c (set (view s .queue) i e)
@@ -76,16 +94,21 @@ module _ {s : State} (t : Tied s) where
       each = λ k b. n .each k b ∙ sym (count-set (λ (a : Request). member k (of a)) (view s .queue) i e nobody (ap (member k) same));
     }
 
-    pub changed-becomes : {q : Queue} {said : Said} (e : Request) → SameLists (getD (view s .queue) i nobody) e → Holds (set (view s .queue) i e) q → Becomes (withEntry (view s) i e) (record { cx = s .cx; cs = s .cs; meters = s .meters; count = q .count; entries = q .entries; said = said })
+    pub changed-becomes : {q : Queue} {said : Said} (e : Request) → SameLists (getD (view s .queue) i nobody) e → Holds (set (view s .queue) i e) q → Becomes (withEntry (view s) i e) (record { cx = s .cx; cs = s .cs; written = s .written; read = s .read; meters = s .meters; count = q .count; entries = q .entries; said = said })
     changed-becomes e same h =
-        queue-becomes (s .meters) h (still-counts (λ a. a .writes) e (same .writes) (t .writers)) (still-counts (λ a. a .reads) e (same .reads) (t .readers))
+        queue-becomes (s .meters) h (record {
+          writers = still-counts (λ a. a .writes) e (same .writes) (t .writers);
+          readers = still-counts (λ a. a .reads) e (same .reads) (t .readers);
+          written = t .written;
+          read = t .read;
+        })
 
 -- the entry of a slot is changed to what the law book makes of it, and is named so
 module _ {s : State} (t : Tied s) (k : Slotted s) (make : Request → Request) (same : (e : Request) → SameLists e (make e)) {i : ℕ} (inside : i < s .count) {p : Entry} (h : Stands (make (request (getD (s .entries) i blank))) p) where
   now-is : request p ≡ make (getD (view s .queue) i nobody)
   now-is = h .is ∙ ap make (sym (request-at (k .slots) inside))
 
-  pub makes-becomes : (said : Said) → Becomes (withEntry (view s) i (make (getD (view s .queue) i nobody))) (record { cx = s .cx; cs = s .cs; meters = s .meters; count = s .count; entries = set (s .entries) i p; said = said })
+  pub makes-becomes : (said : Said) → Becomes (withEntry (view s) i (make (getD (view s .queue) i nobody))) (record { cx = s .cx; cs = s .cs; written = s .written; read = s .read; meters = s .meters; count = s .count; entries = set (s .entries) i p; said = said })
   makes-becomes said =
       let was = getD (view s .queue) i nobody in
       let there : i < length (view s .queue) = omega (arith, requests-length (k .slots)) in

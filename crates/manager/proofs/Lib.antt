@@ -3,6 +3,7 @@ pub mod Views
 pub mod Done
 pub mod Billing
 pub mod Slots
+pub mod Marking
 pub mod Entries
 pub mod Rows
 pub mod Leaving

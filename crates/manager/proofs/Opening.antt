@@ -9,12 +9,14 @@ use lib.Seq.{take-suc, take-suc-set, take-all}
 use Rattle.rules.specs.Table.{newMeter, fresh}
 use Rattle.meter.specs.declared.Meter.{Meter}
 use Rattle.meter.specs.View.{meterView}
+use Rattle.maps.specs.Maps.{Empty}
 use Rattle.counters.proofs.Laws.{counts-none}
 use Rattle.entry.specs.declared.Entry.{Entry}
 use Rattle.entry.specs.Entry.{noEntry}
 use Rattle.queue.proofs.Views.{none-holds}
 use Rattle.manager.specs.declared.Said.{Said}
 use Rattle.manager.specs.State.{Becomes}
+use Rattle.manager.proofs.Marking.{marks-none}
 use Rattle.manager.proofs.Entries.{queue-becomes}
 
 -- the first i meters are new ones of the first i shares
@@ -39,7 +41,7 @@ metered-all {i} {shares} {all} h le six =
     let b : length shares ≤ i = omega arith in
     ap (map meterView) (sym (take-all i all a)) ∙ h .first ∙ ap (map newMeter) (take-all i shares b)
 
-pub fresh-becomes : (shares : List ℕ) (all : List Meter) (unused : Entry) (said : Said) → map meterView all ≡ map newMeter shares → unused ≡ noEntry → Becomes (fresh shares) (record { cx = replicate 256 0; cs = replicate 256 0; meters = all; count = 0; entries = replicate 64 unused; said = said })
+pub fresh-becomes : (shares : List ℕ) (all : List Meter) (unused : Entry) (said : Said) {v w : List ℕ} → Empty v → Empty w → map meterView all ≡ map newMeter shares → unused ≡ noEntry → Becomes (fresh shares) (record { cx = replicate 256 0; cs = replicate 256 0; written = v; read = w; meters = all; count = 0; entries = replicate 64 unused; said = said })
 unfolding fresh
-fresh-becomes shares all unused said same e =
-    rw (← same) (queue-becomes all (none-holds unused e) (counts-none (λ a. a .writes)) (counts-none (λ a. a .reads)))
+fresh-becomes shares all unused said v w same e =
+    rw (← same) (queue-becomes all (none-holds unused e) (record { writers = counts-none (λ a. a .writes); readers = counts-none (λ a. a .reads); written = marks-none v; read = marks-none w }))

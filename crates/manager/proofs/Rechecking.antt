@@ -2,13 +2,15 @@
 use Prim.Native.Nat.{ℕ, _+_, _-_, _≤_, _<_}
 use native.Mathlib.Omega.{arith}
 use mathlib.Core.Path.{_≡_, refl, sym, ap, subst, _∙_}
-use mathlib.Core.Bool.{Bool, true, false}
+use mathlib.Core.Bool.{Bool, true, false, _&&_}
 use mathlib.Core.List.{List}
+use lib.Dec.{eqb}
 use lib.ListN.{length, getD, set}
 use Rattle.rules.specs.declared.Answer.{Answer}
 use Rattle.rules.specs.declared.Answer.the-variants.{Still}
-use Rattle.rules.specs.Lists.{if_then_else_}
-use Rattle.rules.specs.Request.{nobody, size, promoted}
+use Rattle.rules.specs.Lists.{if_then_else_, every}
+use Rattle.rules.specs.Records.{member}
+use Rattle.rules.specs.Request.{Request, nobody, size, promoted}
 use Rattle.rules.specs.Table.{Meter as LawMeter, Table, isTenant, meterOf, spent}
 use Rattle.rules.specs.Prices.{clause9}
 use Rattle.rules.specs.Refusals.{firstOf, standsAt, isAbsent, entryOf, recheckRows}
@@ -16,14 +18,15 @@ use Rattle.rules.specs.Counters.{cx, cs, alone}
 use Rattle.rules.specs.Calls.{withEntry, named, recheckOf}
 use Rattle.rules.specs.Sound.{SoundTable}
 use Rattle.rules.proofs.Refusals.{recheck-passes, here}
+use Rattle.rules.proofs.Lists.{every-in}
 use Rattle.rules.proofs.Keeps.{sound-burn}
 use Rattle.rules.proofs.Sound.{recheck-sound}
 use Rattle.meter.specs.declared.Meter.{Meter}
 use Rattle.meter.specs.View.{meterView, noMeter}
 use Rattle.entry.specs.declared.Entry.{Entry}
 use Rattle.entry.specs.Entry.{blank, request, Tidy, Stands}
-use Rattle.entry.proofs.Typed.{Lists}
-use Rattle.counters.specs.Counters.{at as counter}
+use Rattle.entry.proofs.Typed.{Lists, bytes-small}
+use Rattle.counters.specs.Counters.{at as counter, Counts}
 use Rattle.manager.specs.declared.State.{State}
 use Rattle.manager.specs.State.{view, Sound, Becomes, Did}
 use Rattle.manager.proofs.Views.{meter-view, pays}
@@ -31,8 +34,23 @@ use Rattle.manager.proofs.Done.{tenant-done}
 use Rattle.manager.proofs.Slots.{Slotted, withEntries, used, own-lists}
 use Rattle.manager.proofs.Entries.{promoted-lists, makes-becomes, makes-named}
 use Rattle.manager.proofs.Rows.{entry-is}
-use Rattle.manager.proofs.Joining.{alone-told}
 
+-- ---- the verdict: the arrays say of an entry's records what the counts over the queue say
+module _ {x y : List ℕ} {l : List Request} (w : Counts (λ a. a .writes) x l) (r : Counts (λ a. a .reads) y l) (e : Entry) (b : Lists e) where
+  at-read : (k : ℕ) → member k (request e .reads) ≡ true → counter x k ≡ cx l k
+  at-read k m = w .each k (bytes-small (e .nr) (b .reads) k m)
+
+  at-write : (k : ℕ) → member k (request e .writes) ≡ true → (counter x k ≡ cx l k) × (counter y k ≡ cs l k)
+  at-write k m = let small = bytes-small (e .nw) (b .writes) k m in (w .each k small, r .each k small)
+
+  alone-told : alone (counter x) (counter y) (request e) ≡ alone (cx l) (cs l) (request e)
+  unfolding alone
+  alone-told =
+      let p : every (λ k. eqb (counter x k) 0) (request e .reads) ≡ every (λ k. eqb (cx l k) 0) (request e .reads) = every-in (request e .reads) (λ k m. ap (λ (n : ℕ). eqb n 0) (at-read k m)) in
+      let q : every (λ k. eqb (counter x k) 1 && eqb (counter y k) 0) (request e .writes) ≡ every (λ k. eqb (cx l k) 1 && eqb (cs l k) 0) (request e .writes) = every-in (request e .writes) (λ k m. let h = at-write k m in cc (h .0, h .1)) in
+      cc (p, q)
+
+-- ---- the table
 abbrev pub clear : Table → ℕ → ℕ → Bool
 clear t who serial = alone (cx (t .queue)) (cs (t .queue)) (entryOf who serial (t .queue))
 
@@ -98,7 +116,7 @@ module _ {s : State} (h : Sound s) (k : Slotted s) (who serial : ℕ) {at : ℕ}
           record { state = rw no-way (record { is = refl; tied = h .tied }); says = rw no-way refl; meters = refl }
 
     -- the tenant has paid
-    pub rechecks : {n : State} {answer : Answer} → Turned s who serial n answer → (units : ℕ) → units ≡ size (request e) → {m : Meter} → meterView m ≡ meterOf (view s) who → (paid : Meter) → meterView paid ≡ spent (meterView m) (1 + units) → Did (record { cx = n .cx; cs = n .cs; meters = set (n .meters) (who - 1) paid; count = n .count; entries = n .entries; said = record { answer = answer; burnt = 1 + units } }) (recheckOf clause9 (view s) who serial)
+    pub rechecks : {n : State} {answer : Answer} → Turned s who serial n answer → (units : ℕ) → units ≡ size (request e) → {m : Meter} → meterView m ≡ meterOf (view s) who → (paid : Meter) → meterView paid ≡ spent (meterView m) (1 + units) → Did (record { cx = n .cx; cs = n .cs; written = n .written; read = n .read; meters = set (n .meters) (who - 1) paid; count = n .count; entries = n .entries; said = record { answer = answer; burnt = 1 + units } }) (recheckOf clause9 (view s) who serial)
     unfolding recheckOf
     rechecks {n} {answer} o units sized {m} own paid pays-it =
         let t = view s in

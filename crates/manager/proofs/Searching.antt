@@ -107,7 +107,7 @@ whole-search {t} {begun} {left} {end} {burnt} who wet is l =
     }
 
 -- the meter that paid is put back, and the call says how it ended
-pub over-did : {s n : State} → Sound s → (who : ℕ) → firstOf (scanRows (view s) who) ≡ 0 → {begun left : Meter} {burnt : ℕ} {answer : Answer} → meterView begun ≡ spent (meterView (getD (s .meters) (who - 1) noMeter)) 1 → Over s who begun n left burnt answer → Did (record { cx = n .cx; cs = n .cs; meters = set (n .meters) (who - 1) left; count = n .count; entries = n .entries; said = record { answer = answer; burnt = 1 + burnt } }) (scanOf clause9 (view s) who)
+pub over-did : {s n : State} → Sound s → (who : ℕ) → firstOf (scanRows (view s) who) ≡ 0 → {begun left : Meter} {burnt : ℕ} {answer : Answer} → meterView begun ≡ spent (meterView (getD (s .meters) (who - 1) noMeter)) 1 → Over s who begun n left burnt answer → Did (record { cx = n .cx; cs = n .cs; written = n .written; read = n .read; meters = set (n .meters) (who - 1) left; count = n .count; entries = n .entries; said = record { answer = answer; burnt = 1 + burnt } }) (scanOf clause9 (view s) who)
 unfolding scanOf
 over-did {s} {n} h who none {begun} {left} {burnt} {answer} unit o =
     let t = view s in

@@ -40,7 +40,7 @@ module _ {s : State} (h : Slotted s) {at : ℕ} (there : at < length (view s .qu
 
 -- the state with other slots, and nothing else changed
 abbrev pub withEntries : State → List Entry → State
-withEntries s es = record { cx = s .cx; cs = s .cs; meters = s .meters; count = s .count; entries = es; said = s .said }
+withEntries s es = record { cx = s .cx; cs = s .cs; written = s .written; read = s .read; meters = s .meters; count = s .count; entries = es; said = s .said }
 
 -- nothing but the slots has changed since n₀, and does not as others are put
 pub record Framed (n₀ n : State) : Type 0 where

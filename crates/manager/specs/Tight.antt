@@ -6,15 +6,19 @@ use Rattle.rules.specs.Table.{Table}
 use Rattle.rules.specs.Prices.{pricesOf}
 use Rattle.rules.specs.Calls.{Outcome}
 use Rattle.rules.specs.Runs.{Call, step}
+use Rattle.maps.specs.Maps.{Words}
 use Rattle.entry.specs.Entry.{blank}
 use Rattle.manager.specs.declared.State.{State}
 use Rattle.manager.specs.State.{view, Sound, Did}
 
--- What every value of the type is (`state-sized`): 256 counters of each kind, and 64 slots with 8 bytes for each of two lists.
+-- What every value of the type is (`state-sized`): 256 counters of each kind, four words for each of two maps, and 64 slots with 8
+-- bytes for each of two lists.
 -- That the meters are 16, a sound table says.
 pub record Sized (s : State) : Type 0 where
   pub writers : length (s .cx) ≡ 256
   pub readers : length (s .cs) ≡ 256
+  pub written : Words (s .written)
+  pub read : Words (s .read)
   pub slots : length (s .entries) ≡ 64
   pub reads : (i : ℕ) → i < 64 → length (getD (s .entries) i blank .reads) ≡ 8
   pub writes : (i : ℕ) → i < 64 → length (getD (s .entries) i blank .writes) ≡ 8

@@ -2,23 +2,23 @@
 ghost use mathlib.Core.Path.{_≡_};
 ghost use Prim.Native.Nat.{_+_, _*_};
 ghost use lib.Dec.{leb};
-ghost use Rattle.rules.specs.Lists.{if_then_else_};
-ghost use Rattle.rules.specs.Request.{requested, size, promoted};
+ghost use Rattle.rules.specs.Request.{requested, size};
 ghost use Rattle.rules.specs.Prices.{pricesOf};
 ghost use Rattle.rules.specs.Refusals.{firstOf};
-ghost use Rattle.rules.specs.Counters.{figure2};
 ghost use Rattle.rules.specs.Calls.{beginOf};
-ghost use Rattle.entry.specs.Entry.{request, Tidy, Stands};
-ghost use Rattle.counters.specs.Counters.{at};
+ghost use Rattle.entry.specs.Entry.{request, Tidy};
 ghost use Rattle.manager.specs.State.{view, Sound, Did};
 ghost use Rattle.manager.specs.Rows.{earlyRows, lateRows, Judges};
+ghost use Rattle.manager.specs.Deeds.{AdmittedBy};
 use super::meters;
 use super::refusal;
 use super::tenants;
 use crate::Said;
 use crate::State;
 use entry::Entry;
+use maps::Low;
 use meter::Meter;
+use rules::Answer;
 
 // The price of a request: 1 + n now and 1 + n for the release.
 fn price(e: Entry) -> u32
@@ -96,15 +96,31 @@ fn judge(who: u8, m: Meter, held: usize, awaited: u8, reads: &[u8], writes: &[u8
     }
 }
 
-// The entry that joins: Blocked where the counters, its own count included, show a clash, and promoted where they do not.
-fn admitted<'a>(cx: &'a [u8; 256], cs: &'a [u8; 256], e: Entry) -> Entry
+// The entry that joins, and what Begin answers with.
+struct Joining {
+    entry: Entry,
+    answer: Answer,
+}
+
+// Blocked where there is a record that it clashes on, which is reported, and promoted where there is none.
+fn admitted(low: Low, e: Entry) -> Joining
     requires { ⌜ Tidy e ⌝ }
-    ensures { λ r. ⌜ Stands (if figure2 (at (now (cx .entry))) (at (now (cs .entry))) (request e) then request e else promoted (request e)) r ⌝ }
+    ensures { λ r. ⌜ AdmittedBy low (request e) r ⌝ }
 {
-    if counters::clashes(cx, cs, e) {
-        return e;
+    match low {
+        Low::At(r) => Joining {
+            entry: e,
+            answer: Answer::BlockedOn(e.tenant, e.serial, r),
+        },
+        Low::Nothing => {
+            let p = entry::promoted(e);
+            let answer = entry::named(p);
+            Joining {
+                entry: p,
+                answer: answer,
+            }
+        }
     }
-    entry::promoted(e)
 }
 
 // Joining stands in its call and is no step of its own: so the state is copied once, and Begin's frame is small.
@@ -150,12 +166,16 @@ pub fn begin(s: State, who: u8, awaited: u8, reads: &[u8], writes: &[u8]) -> Sta
     let nw = entry::few(e.nw);
     let read = e.reads;
     let written = e.writes;
+    let low = maps::clash(&n.written, &n.read, read, nr, written, nw);
     counters::raise(&mut n.cx, written, nw);
     counters::raise(&mut n.cs, read, nr);
-    let joins = admitted(&n.cx, &n.cs, e);
+    maps::add(&mut n.written, written, nw);
+    maps::add(&mut n.read, read, nr);
+    let joining = admitted(low, e);
+    let joins = joining.entry;
+    let answer = joining.answer;
     n.entries[count] = joins;
     n.count = count + 1;
-    let answer = entry::named(joins);
     let said = Said {
         answer: answer,
         burnt: cost,

@@ -8,6 +8,8 @@ pub mod begin;
 pub mod deliver;
 pub mod finish;
 pub mod grant;
+pub mod held;
+mod marks;
 mod meters;
 pub mod open;
 pub mod pick;
@@ -23,11 +25,13 @@ pub struct Said {
     pub burnt: u32,
 }
 
-// The counters Cx and Cs of the records, the meters of the tenants 1 to 16, the queue in its first `count` slots, front
-// first, and what the last call said.
+// The counters Cx and Cs of the records, the maps of the records with Cx and with Cs above 0, the meters of the tenants 1 to 16,
+// the queue in its first `count` slots, front first, and what the last call said.
 pub struct State {
     pub cx: [u8; 256],
     pub cs: [u8; 256],
+    pub written: [u64; 4],
+    pub read: [u64; 4],
     pub meters: [Meter; 16],
     pub count: usize,
     pub entries: [Entry; 64],

@@ -64,7 +64,7 @@ fn meters(shares: &[u8]) -> [Meter; 16]
     all
 }
 
-// A fresh state: all counters zero, an empty queue, and what Open answers.
+// A fresh state: all counters zero, no record in a map, an empty queue, and what Open answers.
 fn fresh(shares: &[u8], answer: Answer) -> State
     requires { ⌜ length (now shares) ≡ 16 ⌝ }
     ensures { λ r. ⌜ Becomes (freshTable (now (shares .entry))) r ⌝ }
@@ -73,6 +73,8 @@ fn fresh(shares: &[u8], answer: Answer) -> State
     let all = meters(shares);
     let unused = entry::empty();
     let slots = [unused; 64];
+    let written = maps::none();
+    let read = maps::none();
     let said = Said {
         answer: answer,
         burnt: 0,
@@ -80,6 +82,8 @@ fn fresh(shares: &[u8], answer: Answer) -> State
     State {
         cx: [0; 256],
         cs: [0; 256],
+        written: written,
+        read: read,
         meters: all,
         count: 0,
         entries: slots,

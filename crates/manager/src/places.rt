@@ -5,12 +5,13 @@ ghost use Rattle.rules.specs.Records.{Stored};
 ghost use Rattle.rules.specs.Request.{nobody};
 ghost use Rattle.manager.specs.State.{view, Tied};
 ghost use Rattle.manager.specs.Deeds.{Gone};
+use super::marks;
 use crate::Said;
 use crate::State;
 use rules::Answer;
 
-// The entry at a place leaves: its counters fall, those behind it are shifted down, and the last slot is emptied. The call
-// answers done, and burns nothing.
+// The entry at a place leaves: its counters fall, records that nobody is at any more leave the maps, the entries behind it are
+// shifted down, and the last slot is emptied. The call answers done, and burns nothing.
 pub fn released(s: State, at: usize) -> State
     requires { ⌜ Tied s ⌝ }
     requires { ⌜ at < length (view s .queue) ⌝ }
@@ -25,6 +26,12 @@ pub fn released(s: State, at: usize) -> State
     let writes = e.writes;
     counters::lower(&mut n.cx, writes, nw);
     counters::lower(&mut n.cs, reads, nr);
+    let mut written = n.written;
+    let mut read = n.read;
+    marks::fall(&mut written, &n.cx, writes, nw);
+    marks::fall(&mut read, &n.cs, reads, nr);
+    n.written = written;
+    n.read = read;
     let last = n.count - 1;
     let mut j = at;
     while j < last {

@@ -1,2 +1,5 @@
 pub mod Words
 pub mod Growth
+pub mod Records
+pub mod OwnMaps
+pub mod Typed

@@ -10,7 +10,7 @@ use lib.ListN.{length}
 use borrow.Author.Tests.{eqb-true, ne-eqb, eq-eqb, lt-ltb, lt-leb}
 use Rattle.rules.specs.declared.Mode.{Mode}
 use Rattle.rules.specs.declared.Mode.the-variants.{Free, Blocked}
-use Rattle.rules.specs.declared.Answer.the-variants.{Ok, Done, Nothing}
+use Rattle.rules.specs.declared.Answer.the-variants.{Ok, Done, Nothing, BlockedOn}
 use Rattle.rules.specs.Lists.{if_then_else_, some, every, countIf, keepIf, total, before}
 use Rattle.rules.specs.Records.{member, rising, risingPast, meets, onlyRead, WellFormed}
 use Rattle.rules.specs.Request.{Request, requested, reduced, size, conflict, withMode, promoted, admitted}
@@ -18,6 +18,7 @@ use Rattle.rules.specs.Table.{Meter, Table, meterOf, placesOf, withMeter, fresh
 use Rattle.rules.specs.Prices.{clause9, looks, costly, charge, admission}
 use Rattle.rules.specs.Refusals.{firstOf, beginRows, finishRows, recheckRows, scanRows, grantRows, openRows}
 use Rattle.rules.specs.Counters.{cx, cs, alone}
+use Rattle.rules.specs.Clash.{clashAt, lowestFrom, lowest, lowestClash}
 use Rattle.rules.specs.Scan.{scanWalk}
 use Rattle.rules.specs.Calls.{Outcome, named, beginOf, finishOf, recheckOf, scanOf, openOf, grantOf, asked, joined}
 use Rattle.rules.specs.Runs.{Run, runOf, after, step, number}
@@ -160,12 +161,12 @@ module _ {meters : List Meter} {a b : ℕ} (two : SpareTwo meters a b) where
       let is = second-is Free (5 ∷ []) [] in
       (free-first reader-admits .answer, rw (first-table, begin-admits a2) (ap named is), rw (first-table, begin-admits a2) (ap (λ (e : Request). entry meters a 1 Free (5 ∷ []) [] ∷ e ∷ []) is), rw (first-table, begin-admits a2))
 
-  then-writer : let first = entry meters a 1 Free (5 ∷ []) [] in let second = entry meters b (own a b) Blocked [] (5 ∷ []) in let o = readerThen meters a b [] (5 ∷ []) in (o .answer ≡ named second) × (o .table .queue ≡ first ∷ second ∷ [])
-  unfolding size onlyRead keepIf admitted promoted some conflict meets member
+  then-writer : let first = entry meters a 1 Free (5 ∷ []) [] in let second = entry meters b (own a b) Blocked [] (5 ∷ []) in let o = readerThen meters a b [] (5 ∷ []) in (o .answer ≡ BlockedOn (second .tenant) (second .serial) 5) × (o .table .queue ≡ first ∷ second ∷ [])
+  unfolding size onlyRead keepIf admitted promoted some conflict meets member clashAt lowestClash lowest lowestFrom
   then-writer =
       let a2 = second-admits (one-write 5) refl in
       let is = second-is Blocked [] (5 ∷ []) in
-      (rw (first-table, begin-admits a2) (ap named is), rw (first-table, begin-admits a2) (ap (λ (e : Request). entry meters a 1 Free (5 ∷ []) [] ∷ e ∷ []) is))
+      (rw (first-table, begin-admits a2) (ap (λ (e : Request). BlockedOn (e .tenant) (e .serial) 5) is), rw (first-table, begin-admits a2) (ap (λ (e : Request). entry meters a 1 Free (5 ∷ []) [] ∷ e ∷ []) is))
 
 -- ---- refusals, and the exact fuel
 wet : (units : ℕ) → 0 < units → eqb units 0 ≡ false

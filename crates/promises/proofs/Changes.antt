@@ -14,12 +14,14 @@ use Rattle.rules.specs.Prices.{Prices}
 use Rattle.rules.specs.Refusals.{firstOf, standsAt, entryOf, beginRows, finishRows, recheckRows, scanRows, deliverRows, grantRows}
 use Rattle.rules.specs.Counters.{cx, cs, alone}
 use Rattle.rules.specs.Scan.{End, found, nothing, short}
-use Rattle.rules.specs.Calls.{named, asked, joined, withoutEntry, found-table, search, pickEnd, beginOf, finishOf, recheckOf, scanOf, grantOf, pickOf, deliverOf}
+use Rattle.rules.specs.Calls.{asked, begun, joined, withoutEntry, found-table, search, pickEnd, beginOf, finishOf, recheckOf, scanOf, grantOf, pickOf, deliverOf}
 use Rattle.rules.specs.Sound.{givenBy}
+use Rattle.rules.specs.Said.{said}
 use Rattle.rules.specs.Runs.{Call, step, isOpen}
 use Rattle.rules.specs.Runs.Call.{Begin, Finish, Recheck, Scan, Open, Grant, Pick, Deliver}
 use Rattle.rules.proofs.Tests.{if-either}
 use Rattle.rules.proofs.Requests.{delivered-as}
+use Rattle.rules.proofs.Clashing.{begun-said}
 use Rattle.promises.specs.Names.{Claim, claimOf, answered, admittedBy}
 
 pub data Change (t : Table) : List Claim → List Request → Type 0 where
@@ -29,7 +31,7 @@ pub data Change (t : Table) : List Claim → List Request → Type 0 where
   changes : (at : ℕ) (e : Request) → claimOf e ≡ claimOf (getD (t .queue) at nobody) → Change t [] (set (t .queue) at e)
 
 module _ (p : Prices) (t : Table) where
-  begin-change : (who awaited : ℕ) (reads writes : List ℕ) → let o = beginOf p t who awaited reads writes in Change t (answered (record { reads = reads; writes = writes }) (o .answer)) (o .table .queue)
+  begin-change : (who awaited : ℕ) (reads writes : List ℕ) → let o = beginOf p t who awaited reads writes in Change t (answered (record { reads = reads; writes = writes }) (said (o .answer) .values)) (o .table .queue)
   unfolding beginOf admitted promoted
   begin-change who awaited reads writes = go (eqb (firstOf (beginRows p t e)) 0)
     where
@@ -39,8 +41,8 @@ module _ (p : Prices) (t : Table) where
       entry : Request
       entry = admitted (t .queue) (reduced e)
 
-      go : (b : Bool) → Change t (answered (record { reads = reads; writes = writes }) (if b then named entry else Refused (firstOf (beginRows p t e)))) ((if b then joined t entry else t) .queue)
-      go true = if-either (λ (x : Request). Change t (answered (record { reads = reads; writes = writes }) (named x)) (t .queue ++ x ∷ [])) (conflictsAny (t .queue) (reduced e)) (Change.joins (reduced e) refl) (Change.joins (promoted (reduced e)) refl)
+      go : (b : Bool) → Change t (answered (record { reads = reads; writes = writes }) (said (if b then begun (t .queue) (reduced e) else Refused (firstOf (beginRows p t e))) .values)) ((if b then joined t entry else t) .queue)
+      go true = rw (begun-said (t .queue) (reduced e) .1) (if-either (λ (x : Request). Change t (claimOf (reduced e) ∷ []) (t .queue ++ x ∷ [])) (conflictsAny (t .queue) (reduced e)) (Change.joins (reduced e) refl) (Change.joins (promoted (reduced e)) refl))
       go false = Change.same
 
   found-change : (end : End) → Change t [] (found-table t end .queue)

@@ -9,6 +9,7 @@ pub mod Numbers
 pub mod Changes
 pub mod Names
 pub mod Sales
+pub mod Reports
 pub mod Drains
 pub mod Hung
 pub mod Promises

@@ -122,7 +122,7 @@ admissions-append (s ∷ later) steps =
 
 admitted-is : (s : Step) (c : Claim) → AdmittedAt s c → admittedBy (s .call) (s .outcome .answer) ≡ c ∷ []
 admitted-is s c a =
-    ap (λ (k : Call). admittedBy k (s .outcome .answer)) (a .call) ∙ ap (answered (record { reads = a .reads; writes = c .writes })) (a .answer) ∙
+    ap (λ (k : Call). admittedBy k (s .outcome .answer)) (a .call) ∙ ap (λ (values : List ℕ). answered (record { reads = a .reads; writes = c .writes }) values) (a .answer) ∙
     ap (λ (reads : List ℕ). record { tenant = c .tenant; serial = c .serial; reads = reads; writes = c .writes } ∷ []) (sym (a .reduced))
 
 -- where the two stand in the list of admissions

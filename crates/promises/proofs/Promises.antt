@@ -17,6 +17,7 @@ use Rattle.promises.proofs.Numbers.{prices9, charged9}
 use Rattle.promises.proofs.Names.{own-names, two-names, never-back}
 use Rattle.promises.proofs.Drains.{never-hangs, drains, always-drains}
 use Rattle.promises.proofs.Sales.{sellers-conflict, second-waits}
+use Rattle.promises.proofs.Reports.{reports, begin-alone}
 
 pub promises : {p : Prices} → Fair p → Promises p
 promises {p} f = record {
@@ -48,6 +49,8 @@ promises {p} f = record {
   always-drains = always-drains f;
   sellers-conflict = sellers-conflict;
   second-waits = second-waits p;
+  reports = reports p;
+  begin-alone = begin-alone p;
 }
 
 pub clause9-fair : Fair clause9

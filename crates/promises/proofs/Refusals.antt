@@ -1,7 +1,7 @@
 -- Promise 6: a refused call changes nothing but fuel, and burns the table's charge. The rows of a tenant's call let it pass,
 -- or give 1 to a stranger, 2 to a dry tank, and otherwise a number that is charged, where there is fuel.
 use Prim.Native.Nat.{ℕ, zero, suc, _-_, _<_, min}
-use mathlib.Core.Path.{_≡_, refl, subst, _∙_}
+use mathlib.Core.Path.{_≡_, refl, subst, ap, _∙_}
 use mathlib.Core.Bool.{Bool, true, false, _&&_, _||_, not, true≢false}
 use mathlib.Core.List.{List, [], _∷_}
 use native.Mathlib.Omega.{arith}
@@ -12,7 +12,7 @@ use Rattle.rules.specs.declared.Answer.{Answer}
 use Rattle.rules.specs.declared.Answer.the-variants.{Ok, Still, Refused}
 use Rattle.rules.specs.Lists.{if_then_else_, some, every, total}
 use Rattle.rules.specs.Records.{member}
-use Rattle.rules.specs.Request.{Request, isFree, isBlocked, promoted}
+use Rattle.rules.specs.Request.{Request, reduced, isFree, isBlocked, promoted}
 use Rattle.rules.specs.Table.{Meter, Table, isTenant, noMeter, meterOf, spent, burn, fresh}
 use Rattle.rules.specs.Prices.{Prices, clause9, searching, costly, charge}
 use Rattle.rules.specs.Refusals.{Row, _gives_, firstOf, isDry, isAbsent, entryOf, beginRows, finishRows, recheckRows, scanRows, deliverRows, grantRows, openRows}
@@ -25,6 +25,7 @@ use Rattle.rules.specs.Runs.Call.{Begin, Finish, Recheck, Scan, Open, Grant, Pi
 use Rattle.rules.proofs.Tests.{both, if-either, if-cases}
 use Rattle.rules.proofs.Keeps.{burn-none}
 use Rattle.rules.proofs.Costly.{charge-low, charge-unit, charge-one}
+use Rattle.rules.proofs.Clashing.{begun-said}
 use Rattle.promises.specs.Fuel.{fuelOf, column}
 use Rattle.promises.specs.Refused.{SameButFuel, Refusal, Refuses, Refuses9, RefusedOpen, RefusesOpen, NeverFive}
 
@@ -182,7 +183,7 @@ refused-call : (p : Prices) (t : Table) (c : Call) (unit : ℕ) → Charge p t (
 unfolding beginOf finishOf recheckOf grantOf pickOf deliverOf
 refused-call p t (Begin who awaited reads writes) unit is shut h =
     let e = asked t who awaited reads writes in
-    let r = tenant-refused p t who unit is (firstOf (beginRows p t e)) _ _ _ (begin-verdict p t e) refl h in
+    let r = tenant-refused p t who unit is (firstOf (beginRows p t e)) _ _ _ (begin-verdict p t e) (begun-said (t .queue) (reduced e) .0) h in
     record { same = r .0; burnt = r .1 }
 refused-call p t (Finish who serial) unit is shut h =
     let r = tenant-refused p t who unit is (firstOf (finishRows t who serial)) _ _ _ (finish-verdict t who serial) refl h in
@@ -240,7 +241,9 @@ found-5 q short = refl
 
 pub never-five : (p : Prices) → NeverFive p
 unfolding beginOf finishOf recheckOf scanOf openOf grantOf pickOf deliverOf beginRows finishRows recheckRows scanRows openRows grantRows deliverRows every
-never-five p t (Begin who awaited reads writes) = by-rows-5 _ _ refl refl
+never-five p t (Begin who awaited reads writes) =
+    let e = reduced (asked t who awaited reads writes) in
+    by-rows-5 _ _ refl (ap (λ (n : ℕ). eqb n 5) (begun-said (t .queue) e .0))
 never-five p t (Finish who serial) = by-rows-5 _ _ refl refl
 never-five p t (Recheck who serial) =
     let e = entryOf who serial (t .queue) in

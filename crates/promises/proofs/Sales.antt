@@ -1,7 +1,7 @@
 -- A request that was admitted keeps its lists for as long as it is queued. So whoever asks for a record that it sells, or sells
 -- one that it uses, finds a conflict ahead.
 use Prim.Native.Nat.{ℕ, _≤_}
-use mathlib.Core.Path.{_≡_, sym, ap, subst, _∙_}
+use mathlib.Core.Path.{_≡_, refl, sym, ap, subst, _∙_}
 use mathlib.Core.Bool.{Bool, true, false, _&&_, _||_, false≢true}
 use mathlib.Core.List.{List, [], _∷_, _++_}
 use mathlib.Core.Logic.{⊎-elim}
@@ -11,19 +11,22 @@ use borrow.Author.Tests.{eqb-true}
 use Rattle.rules.specs.declared.Answer.{Answer}
 use Rattle.rules.specs.declared.Answer.the-variants.{Refused}
 use Rattle.rules.specs.Lists.{if_then_else_, some}
-use Rattle.rules.specs.Records.{meets}
-use Rattle.rules.specs.Request.{Request, reduced, conflict, conflictsAny, isNamed, promoted, admitted}
+use Rattle.rules.specs.Records.{member}
+use Rattle.rules.specs.Request.{Request, reduced, isNamed, admitted}
 use Rattle.rules.specs.Table.{Table}
 use Rattle.rules.specs.Prices.{Prices}
 use Rattle.rules.specs.Refusals.{firstOf, beginRows}
-use Rattle.rules.specs.Calls.{Outcome, named, beginOf}
+use Rattle.rules.specs.Clash.{clashesOn, lowestClash}
+use Rattle.rules.specs.Calls.{Outcome, beginOf}
+use Rattle.rules.specs.Verdicts.{sharesAt}
 use Rattle.rules.specs.Said.{said}
 use Rattle.rules.specs.Sound.{Each, Fit, SoundAny, givenBy}
 use Rattle.rules.specs.Runs.{step, number, after, runOf}
-use Rattle.rules.proofs.Tests.{either, or-true, if-cases}
+use Rattle.rules.proofs.Tests.{either, or-comm, or-false, or-true, if-cases}
 use Rattle.rules.proofs.Conflict.{conflict-sym, shares-conflict}
 use Rattle.rules.proofs.Requests.{admitted-as}
 use Rattle.rules.proofs.Reduced.{reduced-conflicts}
+use Rattle.rules.proofs.Clashing.{clash-conflicts, clash-shares, reduced-clashes, lowest-reported, joins-blocked}
 use Rattle.rules.proofs.Admission.{Admissible, begin-admits}
 use Rattle.rules.proofs.Refusals.{begin-passes}
 use Rattle.rules.proofs.Order.{each-map, each-without, each-last}
@@ -41,19 +44,33 @@ sellers-conflict t u a b r share =
     let y = askedAt u b in
     reduced-conflicts (reduced x) y ∙ conflict-sym (reduced x) y ∙ reduced-conflicts y x ∙ conflict-sym y x ∙ shares-conflict x y r share
 
--- a conflict is told from the lists alone
-same-lists : (e f y : Request) → claimOf e ≡ claimOf f → conflict e y ≡ conflict f y
-unfolding conflict
-same-lists e f y k =
-    ap (λ (c : Claim). meets (c .writes) (y .writes) || meets (c .writes) (y .reads) || meets (c .reads) (y .writes)) k
-
--- some entry of the list bears the name, and who does conflicts
-named-clash : (who serial : ℕ) (y : Request) {q : List Request} → Each (λ e. isNamed who serial e ≡ true → conflict e y ≡ true) q → some (isNamed who serial) q ≡ true → conflictsAny q y ≡ true
+-- the record on which they conflict is the same by the reduced lists: what is read no more is still written
+shares-reduced : (a e : Request) (r : ℕ) → sharesAt a (reduced e) r ≡ sharesAt a e r
 unfolding some
-named-clash who serial y Each.none h = h
-named-clash who serial y (Each.also {x = x} {xs = xs} k ks) h = ⊎-elim
-    (λ (is : isNamed who serial x ≡ true). ap (λ (b : Bool). b || conflictsAny xs y) (k is))
-    (λ (is : some (isNamed who serial) xs ≡ true). ap (λ (b : Bool). conflict x y || b) (named-clash who serial y ks is) ∙ or-true (conflict x y))
+shares-reduced a e r = alone (reduced e) ∙ reduced-clashes (a ∷ []) e r ∙ sym (alone e)
+  where
+    alone : (x : Request) → sharesAt a x r ≡ clashesOn (a ∷ []) x r
+    alone x = sym (clash-shares (a ∷ []) x r ∙ or-false (sharesAt a x r))
+
+shares-sym : (a b : Request) (r : ℕ) → sharesAt a b r ≡ sharesAt b a r
+shares-sym a b r = or-comm (member r (a .writes) && (member r (b .reads) || member r (b .writes))) (member r (b .writes) && (member r (a .reads) || member r (a .writes)))
+
+sellers-share : (x y : Request) (r : ℕ) → sharesAt x y r ≡ true → sharesAt (reduced x) (reduced y) r ≡ true
+sellers-share x y r share =
+    shares-reduced (reduced x) y r ∙ shares-sym (reduced x) y r ∙ shares-reduced y x r ∙ shares-sym y x r ∙ share
+
+-- that is told from the lists alone
+same-lists : (e f y : Request) (r : ℕ) → claimOf e ≡ claimOf f → sharesAt e y r ≡ sharesAt f y r
+same-lists e f y r k =
+    ap (λ (c : Claim). (member r (c .writes) && (member r (y .reads) || member r (y .writes))) || (member r (y .writes) && (member r (c .reads) || member r (c .writes)))) k
+
+-- some entry of the list bears the name, and who does passes the test
+named-some : (who serial : ℕ) (test : Request → Bool) {q : List Request} → Each (λ e. isNamed who serial e ≡ true → test e ≡ true) q → some (isNamed who serial) q ≡ true → some test q ≡ true
+unfolding some
+named-some who serial test Each.none h = h
+named-some who serial test (Each.also {x = x} {xs = xs} k ks) h = ⊎-elim
+    (λ (is : isNamed who serial x ≡ true). ap (λ (b : Bool). b || some test xs) (k is))
+    (λ (is : some (isNamed who serial) xs ≡ true). ap (λ (b : Bool). test x || b) (named-some who serial test ks is) ∙ or-true (test x))
     (either (isNamed who serial x) (some (isNamed who serial) xs) h)
 
 -- ---- the request keeps its lists
@@ -61,7 +78,7 @@ named-clash who serial y (Each.also {x = x} {xs = xs} k ks) h = ⊎-elim
 not-refused : (z : ℕ) (answer : Answer) → said (if eqb z 0 then answer else Refused z) .number ≡ 0 → z ≡ 0
 not-refused z answer = if-cases (λ (a : Answer). said a .number ≡ 0 → z ≡ 0) (eqb z 0) (λ e. λ h. eqb-true z 0 e) (λ e. λ h. h)
 
-passes : (p : Prices) (t : Table) (a : Ask) → number (step p t (begin a)) ≡ 0 → Admissible p t (askedAt t a)
+pub passes : (p : Prices) (t : Table) (a : Ask) → number (step p t (begin a)) ≡ 0 → Admissible p t (askedAt t a)
 unfolding beginOf
 passes p t a h = begin-passes p t (askedAt t a) (not-refused (firstOf (beginRows p t (askedAt t a))) _ h)
 
@@ -113,7 +130,7 @@ module _ (p : Prices) where
 
   -- the second request finds it ahead
   pub second-waits : SecondWaits p
-  unfolding runOf after Keeps admitted
+  unfolding runOf after Keeps
   second-waits shares calls between a b r m share =
       let before = reached p shares calls in
       let t = before .table in
@@ -122,6 +139,7 @@ module _ (p : Prices) where
       let x = reduced (askedAt t a) in
       let y = reduced (askedAt u b) in
       let kept = kept-on p (a .who) (x .serial) (Keeps (a .who) (x .serial) (claimOf x)) (change-keeps (a .who) (x .serial) (claimOf x)) between (after p before (begin a)) (m .shut) (first-given s a (m .first)) (first-keeps s a (m .first)) in
-      let clashes : Each (λ e. isNamed (a .who) (x .serial) e ≡ true → conflict e y ≡ true) (u .queue) = each-map (λ e k. λ is. same-lists e x y (k is) ∙ sellers-conflict t u a b r share) kept in
-      let clash = named-clash (a .who) (x .serial) y clashes (m .queued) in
-      ap (λ (o : Outcome). o .answer) (begin-admits (passes p u b (m .second))) ∙ ap (λ (c : Bool). named (if c then y else promoted y)) clash
+      let shared : Each (λ e. isNamed (a .who) (x .serial) e ≡ true → sharesAt e y r ≡ true) (u .queue) = each-map (λ e k. λ is. same-lists e x y r (k is) ∙ sellers-share (askedAt t a) (askedAt u b) r share) kept in
+      let clash : clashesOn (u .queue) y r ≡ true = clash-shares (u .queue) y r ∙ named-some (a .who) (x .serial) (λ e. sharesAt e y r) shared (m .queued) in
+      let conflicts = clash-conflicts (u .queue) y r clash in
+      (lowestClash (u .queue) y, ap (λ (o : Outcome). o .answer) (begin-admits (passes p u b (m .second))) ∙ joins-blocked (u .queue) y refl conflicts .answer, lowest-reported (u .queue) y conflicts .lowest r clash)

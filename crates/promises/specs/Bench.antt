@@ -7,7 +7,7 @@ use lib.Dec.{eqb}
 use lib.ListN.{length, take}
 use Rattle.rules.specs.declared.Mode.{Mode}
 use Rattle.rules.specs.declared.Mode.the-variants.{Free, Blocked}
-use Rattle.rules.specs.declared.Answer.the-variants.{Ok, Done, Nothing}
+use Rattle.rules.specs.declared.Answer.the-variants.{Ok, Done, Nothing, BlockedOn}
 use Rattle.rules.specs.Lists.{if_then_else_, total}
 use Rattle.rules.specs.Records.{rising}
 use Rattle.rules.specs.Request.{Request, requested, withMode}
@@ -106,13 +106,13 @@ pub record TenExamples : Type 0 where
       (o .answer ≡ named second) ×
       (o .table .queue ≡ first ∷ second ∷ []) ×
       (cs (o .table .queue) 5 ≡ 2)
-  -- E4 A reader of 5, then a writer of 5: the second is Blocked.
+  -- E4 A reader of 5, then a writer of 5: the second is Blocked. By document 02, item 5, it reports 5.
   pub e4 : (meters : List Meter) (a b : ℕ) →
       SpareTwo meters a b →
       let first = entry meters a 1 Free (5 ∷ []) [] in
       let second = entry meters b (own a b) Blocked [] (5 ∷ []) in
       let o = readerThen meters a b [] (5 ∷ []) in
-      (o .answer ≡ named second) ×
+      (o .answer ≡ BlockedOn (second .tenant) (second .serial) 5) ×
       (o .table .queue ≡ first ∷ second ∷ [])
   -- E5 Both lists empty: Free, price 2.
   pub e5 : (meters : List Meter) (who : ℕ) →

@@ -5,6 +5,7 @@ pub mod Searches
 pub mod Places
 pub mod Names
 pub mod Sales
+pub mod Reports
 pub mod Drains
 pub mod Hung
 pub mod Promises

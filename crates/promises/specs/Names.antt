@@ -4,15 +4,14 @@ use mathlib.Core.Path.{_≡_}
 use mathlib.Core.Bool.{Bool, true, false, _&&_, not}
 use mathlib.Core.List.{List, [], _∷_, _++_}
 use lib.Dec.{eqb}
-use Rattle.rules.specs.declared.Mode.{Mode}
 use Rattle.rules.specs.declared.Answer.{Answer}
-use Rattle.rules.specs.declared.Answer.the-variants.{Ok, Done, Still, Nothing, Refused, Named}
 use Rattle.rules.specs.Lists.{if_then_else_, some, every}
 use Rattle.rules.specs.Records.{onlyRead}
 use Rattle.rules.specs.Request.{Request, isNamed}
 use Rattle.rules.specs.Table.{Table}
 use Rattle.rules.specs.CallTable.{isRequest}
 use Rattle.rules.specs.Prices.{Prices}
+use Rattle.rules.specs.Said.{said}
 use Rattle.rules.specs.Sound.{InOrder}
 use Rattle.rules.specs.Runs.{Call, Begin, Step, Run, Lists, listsOf, roleOf, isOpen, runOf}
 use Rattle.promises.specs.Fuel.{reached}
@@ -28,14 +27,11 @@ pub record Claim : Type 0 where
 abbrev pub claimOf : Request → Claim
 claimOf e = record { tenant = e .tenant; serial = e .serial; reads = e .reads; writes = e .writes }
 
--- a Begin that answers with a name has admitted its request under that name
-abbrev pub answered : Lists → Answer → List Claim
-answered l Ok = []
-answered l Done = []
-answered l Still = []
-answered l Nothing = []
-answered l (Refused number) = []
-answered l (Named mode tenant serial) = record {
+-- a Begin that answers with a name, a tenant and a serial, has admitted its request under that name; a refusal has one value
+abbrev pub answered : Lists → List ℕ → List Claim
+answered l [] = []
+answered l (number ∷ []) = []
+answered l (tenant ∷ serial ∷ more) = record {
   tenant = tenant;
   serial = serial;
   reads = onlyRead (l .reads) (l .writes);
@@ -43,7 +39,7 @@ answered l (Named mode tenant serial) = record {
 } ∷ []
 
 abbrev pub admittedBy : Call → Answer → List Claim
-admittedBy c answer = if isRequest (roleOf c) then answered (listsOf c) answer else []
+admittedBy c answer = if isRequest (roleOf c) then answered (listsOf c) (said answer .values) else []
 
 -- all that the steps admitted, the earliest first (a run's steps stand the latest first)
 unfoldable pub admissions : List Step → List Claim
@@ -65,11 +61,10 @@ OwnNames p =
 -- the same told of two Begins of a run, whose reads are as given
 pub record AdmittedAt (s : Step) (c : Claim) : Type 0 where
   pub awaited : ℕ
-  pub mode : Mode
   pub reads : List ℕ
   pub reduced : c .reads ≡ onlyRead reads (c .writes)
   pub call : s .call ≡ Begin (c .tenant) awaited reads (c .writes)
-  pub answer : s .outcome .answer ≡ Named mode (c .tenant) (c .serial)
+  pub answer : said (s .outcome .answer) .values ≡ c .tenant ∷ c .serial ∷ []
 
 -- step a was made before step b (the latest stands first)
 pub record MadeBefore (a b : Step) (steps : List Step) : Type 0 where

@@ -9,7 +9,7 @@ use Rattle.rules.specs.Request.{Request, reduced, isFree, isBlocked, promoted, 
 use Rattle.rules.specs.Table.{Table, isTenant, meterOf, placesOf, withQueue, mostSerials}
 use Rattle.rules.specs.Prices.{Prices, admission}
 use Rattle.rules.specs.Refusals.{standsAt, isAbsent, entryOf}
-use Rattle.rules.specs.Calls.{Outcome, named, withoutEntry, asked, beginOf, finishOf, pickOf}
+use Rattle.rules.specs.Calls.{Outcome, named, begun, withoutEntry, asked, beginOf, finishOf, pickOf}
 use Rattle.promises.specs.Fuel.{fuelOf}
 
 -- ---- 5 "A well-formed request from a tenant below its share, with serials left and fuel for the price, is admitted": e is the
@@ -23,7 +23,7 @@ pub record MayJoin (p : Prices) (t : Table) (e : Request) : Type 0 where
   pub fuel : admission p (reduced e) ≤ fuelOf t (e .tenant)
 
 pub record Joins (p : Prices) (t : Table) (e : Request) (o : Outcome) : Type 0 where
-  pub answer : o .answer ≡ named (admitted (t .queue) (reduced e))
+  pub answer : o .answer ≡ begun (t .queue) (reduced e)
   pub queue : o .table .queue ≡ t .queue ++ admitted (t .queue) (reduced e) ∷ []
   pub burnt : o .burnt ≡ admission p (reduced e)
 

@@ -13,6 +13,7 @@ use Rattle.promises.specs.Places.{Admits, Finishes, Picks}
 use Rattle.promises.specs.Names.{OwnNames, TwoNames, NeverBack}
 use Rattle.promises.specs.Drains.{NeverHangs, Drains, AlwaysDrains}
 use Rattle.promises.specs.Sales.{SellersConflict, SecondWaits}
+use Rattle.promises.specs.Reports.{Reports, BeginAlone}
 
 -- 9 the states reached are sound, and name no records but those that the calls named
 abbrev pub AllSound : Prices → Type 1
@@ -63,6 +64,9 @@ pub record Promises (p : Prices) : Type 1 where
   -- 13
   pub sellers-conflict : SellersConflict
   pub second-waits : SecondWaits p
+  -- 14
+  pub reports : Reports p
+  pub begin-alone : BeginAlone p
 
 pub record AtClause9 : Type 1 where
   pub all : Promises clause9

@@ -1,11 +1,11 @@
 -- Document 02, item 4, as plugins that sell rely on it: who reads a record and writes it back has it alone. All is told from the
 -- lists as given, so it is the same whether a record stands in both lists or among the writes alone.
-use Prim.Native.Nat.{ℕ, _+_}
+use Prim.Native.Nat.{ℕ, _+_, _≤_}
 use mathlib.Core.Path.{_≡_}
 use mathlib.Core.Bool.{Bool, true, _&&_, _||_, not}
 use mathlib.Core.List.{List, _∷_}
-use Rattle.rules.specs.declared.Mode.the-variants.{Blocked}
-use Rattle.rules.specs.declared.Answer.the-variants.{Named}
+use Rattle.rules.specs.declared.Answer.{Answer}
+use Rattle.rules.specs.declared.Answer.the-variants.{BlockedOn}
 use Rattle.rules.specs.Lists.{every}
 use Rattle.rules.specs.Records.{member}
 use Rattle.rules.specs.Request.{Request, reduced, conflict}
@@ -48,7 +48,11 @@ SellersConflict =
     shareOne r a b ≡ true →
     conflict (reduced (askedAt t a)) (reduced (askedAt u b)) ≡ true
 
--- ---- and the second is Blocked
+-- ---- and the second is Blocked: it is told of that record, or of a lower one
+-- what b's Begin answers at a table, where record r is between them
+abbrev pub HeldUp : Ask → Table → ℕ → Answer → Type 0
+HeldUp b t r answer = (x : ℕ) × (answer ≡ BlockedOn (b .who) (givenBy t (b .who) + 1) x) × (x ≤ r)
+
 -- the table at which b's request is made: after a's, and any calls up to then
 abbrev pub meeting : Prices → Run → Ask → List Call → Table
 meeting p r a between = runOf p r (begin a ∷ between) .table
@@ -67,4 +71,4 @@ SecondWaits p =
     let t = meeting p before a between in
     Meet p before a b between →
     shareOne r a b ≡ true →
-    step p t (begin b) .answer ≡ Named Blocked (b .who) (givenBy t (b .who) + 1)
+    HeldUp b t r (step p t (begin b) .answer)

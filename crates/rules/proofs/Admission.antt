@@ -13,7 +13,7 @@ use Rattle.rules.specs.Request.{Request, reduced, admitted}
 use Rattle.rules.specs.Table.{Table, meterOf, isTenant, placesOf, burn}
 use Rattle.rules.specs.Prices.{Prices, admission}
 use Rattle.rules.specs.Refusals.{firstOf, beginRows}
-use Rattle.rules.specs.Calls.{asked, joined, named, beginOf}
+use Rattle.rules.specs.Calls.{asked, begun, joined, beginOf}
 
 pub record Admissible (p : Prices) (t : Table) (e : Request) : Type 0 where
   pub tenant : isTenant (e .tenant) ≡ true
@@ -38,6 +38,6 @@ no-refusal {p} {t} {e} a =
     simp (a .tenant, dry, reads, writes, a .lists .reads-rise, a .lists .writes-rise, late, full, out, poor)
 
 -- what an admitted request's Begin does
-pub begin-admits : {p : Prices} {t : Table} {who awaited : ℕ} {reads writes : List ℕ} → Admissible p t (asked t who awaited reads writes) → beginOf p t who awaited reads writes ≡ (let e = reduced (asked t who awaited reads writes) in let entry = admitted (t .queue) e in record { table = burn who (admission p e) (joined t entry); answer = named entry; burnt = admission p e })
+pub begin-admits : {p : Prices} {t : Table} {who awaited : ℕ} {reads writes : List ℕ} → Admissible p t (asked t who awaited reads writes) → beginOf p t who awaited reads writes ≡ (let e = reduced (asked t who awaited reads writes) in let entry = admitted (t .queue) e in record { table = burn who (admission p e) (joined t entry); answer = begun (t .queue) e; burnt = admission p e })
 unfolding beginOf
 begin-admits a = rw (no-refusal a)

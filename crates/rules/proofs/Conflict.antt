@@ -11,6 +11,7 @@ use lib.ListN.{length, getD, take}
 use Rattle.rules.specs.Lists.{some}
 use Rattle.rules.specs.Records.{member, meets}
 use Rattle.rules.specs.Request.{Request, nobody, conflict, conflictsAny}
+use Rattle.rules.specs.Clash.{writtenIn, readIn}
 use Rattle.rules.specs.Verdicts.{sharesAt, ConflictExact}
 use Rattle.rules.proofs.Tests.{or-assoc, or-comm, or-true, either, both}
 use Rattle.rules.proofs.Lists.{some-cong, some-or, some-some, meets-sym, meets-at, meets-both}
@@ -65,13 +66,6 @@ pub conflict-exact : ConflictExact
 conflict-exact a b = (conflict-shares a b, λ w. shares-conflict a b (w .0) (w .1))
 
 -- ---- a queue
--- some entry of the queue writes the record; reads it
-abbrev pub writtenIn : List Request → ℕ → Bool
-writtenIn q r = some (λ a. member r (a .writes)) q
-
-abbrev pub readIn : List Request → ℕ → Bool
-readIn q r = some (λ a. member r (a .reads)) q
-
 over : (of : Request → List ℕ) (q : List Request) (xs : List ℕ) → some (λ (a : Request). meets (of a) xs) q ≡ some (λ (r : ℕ). some (λ (a : Request). member r (of a)) q) xs
 unfolding meets
 over of q xs =

@@ -3,6 +3,7 @@ pub mod Lists
 pub mod Conflict
 pub mod Reduced
 pub mod Verdicts
+pub mod Clashing
 pub mod Prices
 pub mod Meters
 pub mod Admission

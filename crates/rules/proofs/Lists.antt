@@ -12,7 +12,7 @@ use lib.Seq.{split-at}
 use borrow.Author.Tests.{eqb-true, eq-eqb, lt-ltb}
 use Rattle.rules.specs.Lists.{some, every, countIf, total}
 use Rattle.rules.specs.Records.{member, meets}
-use Rattle.rules.proofs.Tests.{or-assoc, or-swap, and-swap, either, eqb-sym, one, one-le, not-or, or-true}
+use Rattle.rules.proofs.Tests.{or-assoc, or-swap, and-swap, either, eqb-sym, one, one-le, not-or, or-true, and-true, and-false}
 
 module _ {A : Type 0} where
   pub some-append : (f : A → Bool) (xs ys : List A) → some f (xs ++ ys) ≡ (some f xs || some f ys)
@@ -34,6 +34,10 @@ module _ {A : Type 0} where
   unfolding some
   some-or f g [] = refl
   some-or f g (x ∷ xs) = ap (λ (t : Bool). (f x || g x) || t) (some-or f g xs) ∙ or-swap (f x) (g x) _ _
+
+  pub some-both : (f : A → Bool) (c : Bool) (xs : List A) → some (λ (x : A). f x && c) xs ≡ (some f xs && c)
+  some-both f true xs = some-cong xs (λ x. and-true (f x)) ∙ sym (and-true (some f xs))
+  some-both f false xs = some-cong xs (λ x. and-false (f x)) ∙ some-never xs ∙ sym (and-false (some f xs))
 
   pub every-some : (f : A → Bool) (xs : List A) → every (λ (x : A). not (f x)) xs ≡ not (some f xs)
   unfolding some every
@@ -132,22 +136,31 @@ unfolding meets member
 meets-sym xs ys =
     some-some (λ (x y : ℕ). eqb y x) xs ys ∙ some-cong ys (λ y. some-cong xs (λ x. eqb-sym y x))
 
+-- a record of the list that passes the test, where some does
+pub some-at : (f : ℕ → Bool) (xs : List ℕ) → some f xs ≡ true → (r : ℕ) × (member r xs ≡ true) × (f r ≡ true)
+unfolding some member
+some-at f [] e = (0, e, cc)
+some-at f (x ∷ xs) e = ⊎-elim
+    (λ (h : f x ≡ true). (x, rw (eq-eqb x x refl), h))
+    (λ (h : some f xs ≡ true). let w = some-at f xs h in (w .0, ap (λ (t : Bool). eqb x (w .0) || t) (w .1) ∙ or-true (eqb x (w .0)), w .2))
+    (either (f x) (some f xs) e)
+
+pub some-here : (f : ℕ → Bool) (r : ℕ) (xs : List ℕ) → member r xs ≡ true → f r ≡ true → some f xs ≡ true
+unfolding some member
+some-here f r [] a b = a
+some-here f r (x ∷ xs) a b = ⊎-elim
+    (λ (h : eqb x r ≡ true). let e : x ≡ r = eqb-true x r h in let m : f x ≡ true = rw e b in ap (λ (t : Bool). t || some f xs) m)
+    (λ (h : member r xs ≡ true). ap (λ (t : Bool). f x || t) (some-here f r xs h b) ∙ or-true (f x))
+    (either (eqb x r) (member r xs) a)
+
 -- a record of both lists, where they meet; and none where they do not
 pub meets-at : (xs ys : List ℕ) → meets xs ys ≡ true → (r : ℕ) × (member r xs ≡ true) × (member r ys ≡ true)
-unfolding meets some member
-meets-at [] ys e = (0, e, cc)
-meets-at (x ∷ xs) ys e = ⊎-elim
-    (λ (h : member x ys ≡ true). (x, rw (eq-eqb x x refl), h))
-    (λ (h : meets xs ys ≡ true). let w = meets-at xs ys h in (w .0, ap (λ (t : Bool). eqb x (w .0) || t) (w .1) ∙ or-true (eqb x (w .0)), w .2))
-    (either (member x ys) (meets xs ys) e)
+unfolding meets
+meets-at xs ys = some-at (λ (x : ℕ). member x ys) xs
 
 pub meets-both : (r : ℕ) (xs ys : List ℕ) → member r xs ≡ true → member r ys ≡ true → meets xs ys ≡ true
-unfolding meets some member
-meets-both r [] ys a b = a
-meets-both r (x ∷ xs) ys a b = ⊎-elim
-    (λ (h : eqb x r ≡ true). let e : x ≡ r = eqb-true x r h in let m : member x ys ≡ true = rw e b in ap (λ (t : Bool). t || meets xs ys) m)
-    (λ (h : member r xs ≡ true). ap (λ (t : Bool). member x ys || t) (meets-both r xs ys h b) ∙ or-true (member x ys))
-    (either (eqb x r) (member r xs) a)
+unfolding meets
+meets-both r xs ys = some-here (λ (x : ℕ). member x ys) r xs
 
 pub apart-at : (r : ℕ) (xs ys : List ℕ) → meets xs ys ≡ false → member r xs ≡ true → member r ys ≡ false
 apart-at r xs ys e a = go (member r ys) refl

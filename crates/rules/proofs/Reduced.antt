@@ -58,7 +58,7 @@ module _ {A : Type 0} where
   keep-each {P} f (Each.also {x} {xs} h hs) = if-either (Each P) (f x) (Each.also h (keep-each f hs)) (keep-each f hs)
 
 -- ---- records
-keep-member : (f : ℕ → Bool) (r : ℕ) (xs : List ℕ) → member r (keepIf f xs) ≡ (member r xs && f r)
+pub keep-member : (f : ℕ → Bool) (r : ℕ) (xs : List ℕ) → member r (keepIf f xs) ≡ (member r xs && f r)
 unfolding keepIf member some
 keep-member f r [] = refl
 keep-member f r (x ∷ xs) = go (eqb x r) refl (f x) refl (keep-member f r xs)

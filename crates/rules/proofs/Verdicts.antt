@@ -12,13 +12,14 @@ use Rattle.rules.specs.Lists.{if_then_else_, some, every}
 use Rattle.rules.specs.Records.{member, meets}
 use Rattle.rules.specs.Request.{Request, nobody, requested, reduced, conflictsAny, withMode, promoted, admitted}
 use Rattle.rules.specs.Counters.{cx, cs, figure2, alone}
+use Rattle.rules.specs.Clash.{writtenIn, readIn}
 use Rattle.rules.specs.Calls.{withoutEntry}
 use Rattle.rules.specs.Verdicts.{Figure2Tells, BeginTells, RecheckTells, MapsTell}
 use Rattle.rules.specs.Scan.{Maps, noRecords, mapped, mapsOver, clearBy}
 use Rattle.rules.proofs.Tests.{one, or-assoc, or-false, not-or, above-one, zero-above, one-own, and-comm}
 use Rattle.rules.proofs.Lists.{some-cong, some-in, every-in, every-some, every-and, some-or, count-above, count-last, count-without, apart-at, meets-sym}
 use Rattle.rules.proofs.Reduced.{reduced-clash}
-use Rattle.rules.proofs.Conflict.{writtenIn, readIn, conflict-spread}
+use Rattle.rules.proofs.Conflict.{conflict-spread}
 
 -- ---- the verdicts by one comparison of a list at a time
 pub figure2-split : (x s : ℕ → ℕ) (e : Request) → figure2 x s e ≡ (some (λ k. ltb 0 (x k)) (e .reads) || (some (λ k. ltb 1 (x k)) (e .writes) || some (λ k. ltb 0 (s k)) (e .writes)))

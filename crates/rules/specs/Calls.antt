@@ -4,13 +4,14 @@ use mathlib.Core.List.{List, [], _∷_, _++_}
 use lib.Dec.{eqb}
 use lib.ListN.{getD, set, take, drop, replicate}
 use Rattle.rules.specs.declared.Answer.{Answer}
-use Rattle.rules.specs.declared.Answer.the-variants.{Ok, Done, Still, Nothing, Refused, Named}
+use Rattle.rules.specs.declared.Answer.the-variants.{Ok, Done, Still, Nothing, Refused, Named, BlockedOn}
 use Rattle.rules.specs.Lists.{if_then_else_}
 use Rattle.rules.specs.Request.{Request, nobody, requested, reduced, size, promoted, admitted, delivered, isBlocked}
 use Rattle.rules.specs.Table.{Table, meterOf, withMeter, withQueue, numbered, granted, burn, fresh}
 use Rattle.rules.specs.Prices.{Prices, admission, searching, charge}
 use Rattle.rules.specs.Refusals.{firstOf, standsAt, entryOf, beginRows, finishRows, recheckRows, scanRows, deliverRows, grantRows, openRows}
 use Rattle.rules.specs.Counters.{cx, cs, alone}
+use Rattle.rules.specs.Clash.{lowestClash}
 use Rattle.rules.specs.Scan.{End, found, nothing, short, Walk, scanWalk}
 
 pub record Outcome : Type 0 where
@@ -54,6 +55,10 @@ withEntry t at e = withQueue t (set (t .queue) at e)
 abbrev pub asked : Table → ℕ → ℕ → List ℕ → List ℕ → Request
 asked t who awaited reads writes = requested who (meterOf t who .serials + 1) awaited reads writes
 
+-- what Begin answers with: document 02, item 5, "A Blocked Begin then reports the lowest-numbered record that it clashed on"
+abbrev pub begun : List Request → Request → Answer
+begun q e = if isBlocked (admitted q e .mode) then BlockedOn (e .tenant) (e .serial) (lowestClash q e) else named (admitted q e)
+
 -- "and joins the back"
 abbrev pub joined : Table → Request → Table
 joined t e = withQueue (withMeter t (e .tenant) (numbered (meterOf t (e .tenant)))) (t .queue ++ e ∷ [])
@@ -62,7 +67,7 @@ unfoldable pub beginOf : Prices → Table → ℕ → ℕ → List ℕ → List 
 beginOf p t who awaited reads writes =
     let e = asked t who awaited reads writes in
     let entry = admitted (t .queue) (reduced e) in
-    tenantCall p t who (firstOf (beginRows p t e)) (admission p (reduced e)) (joined t entry) (named entry)
+    tenantCall p t who (firstOf (beginRows p t e)) (admission p (reduced e)) (joined t entry) (begun (t .queue) (reduced e))
 
 -- "A Free entry leaves". "Finish answers done."
 unfoldable pub finishOf : Prices → Table → ℕ → ℕ → Outcome

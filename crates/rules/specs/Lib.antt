@@ -6,10 +6,12 @@ pub mod CallTable
 pub mod Prices
 pub mod Refusals
 pub mod Counters
+pub mod Clash
 pub mod Scan
 pub mod Calls
 pub mod Verdicts
 pub mod Reduced
+pub mod Clashing
 pub mod Said
 pub mod Sound
 pub mod Runs

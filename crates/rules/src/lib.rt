@@ -7,6 +7,7 @@ pub enum Mode {
 }
 
 // What a call answers. `Refused` holds the number of document 01's table, `Named` an entry's state, its tenant and its serial.
+// `BlockedOn`, of a Begin alone, holds a Blocked entry's tenant and serial, and the lowest record that it clashed on.
 pub enum Answer {
     Ok,
     Done,
@@ -14,6 +15,14 @@ pub enum Answer {
     Nothing,
     Refused(u8),
     Named(Mode, u8, u16),
+    BlockedOn(u8, u16, u8),
+}
+
+// How many records are written by some queued entry, read by some, and either.
+pub struct Tally {
+    pub written: u16,
+    pub read: u16,
+    pub either: u16,
 }
 
 // The calls, each with its row in the law book's table (specs/CallTable.antt).

@@ -53,10 +53,6 @@ impl Entry {
 
     fn promote(&mut self) -> Answer {
         self.mode = Mode::unblocked(self.due);
-        self.named()
-    }
-
-    fn named(&self) -> Answer {
         Answer::Named(self.mode, self.tenant, self.serial)
     }
 }
@@ -118,12 +114,15 @@ impl Table {
         Ok((only_read, price))
     }
 
-    /// The clash of figure 2, the request's own counts included.
-    fn clashes(&self, reads: &[u8], writes: &[u8]) -> bool {
-        let read = |&record: &u8| self.cx[usize::from(record)] > 0;
+    /// The lowest record of a clash of figure 2, the request's own counts
+    /// included. Both lists rise, so that the first of each that clashes is its
+    /// lowest.
+    fn lowest_clash(&self, reads: &[u8], writes: &[u8]) -> Option<u8> {
+        let read = |&&record: &&u8| self.cx[usize::from(record)] > 0;
         let write =
-            |&record: &u8| self.cx[usize::from(record)] > 1 || self.cs[usize::from(record)] > 0;
-        reads.iter().any(read) || writes.iter().any(write)
+            |&&record: &&u8| self.cx[usize::from(record)] > 1 || self.cs[usize::from(record)] > 0;
+        let (read, written) = (reads.iter().find(read), writes.iter().find(write));
+        read.into_iter().chain(written).min().copied()
     }
 
     /// "Finish: 1; then a Free entry of that name succeeds even on a dry tank;
@@ -218,13 +217,14 @@ impl Locks for Table {
         };
         entry.reads[..reads.len()].copy_from_slice(reads);
         entry.writes[..writes.len()].copy_from_slice(writes);
-        if !self.clashes(reads, writes) {
-            entry.promote();
-        }
+        let answer = match self.lowest_clash(reads, writes) {
+            Some(lowest) => Answer::Blocked(who, entry.serial, lowest),
+            None => entry.promote(),
+        };
         self.entries[self.count] = entry;
         self.count += 1;
         Outcome {
-            answer: Ok(entry.named()),
+            answer: Ok(answer),
             burnt: price,
         }
     }
@@ -278,7 +278,7 @@ mod tests {
             named(Mode::Free, 1, 2)
         );
         let blocked = table.begin(2, 0, &[], &[10, 12]);
-        assert_eq!(blocked.answer, named(Mode::Blocked, 2, 1));
+        assert_eq!(blocked.answer, Ok(Answer::Blocked(2, 1, 10)));
         assert_eq!(blocked.burnt, 6);
         assert_eq!(table.scan(2).answer, Ok(Answer::Nothing));
         assert_eq!(table.finish(1, 1).answer, Ok(Answer::Done));
@@ -310,7 +310,7 @@ mod tests {
         );
         assert_eq!(
             table.begin(1, 0, &[], &[5]).answer,
-            named(Mode::Blocked, 1, 3)
+            Ok(Answer::Blocked(1, 3, 5))
         );
         assert_eq!(table.finish(1, 3).answer, Err(11));
         assert_eq!(table.finish(1, 9).answer, Err(10));
@@ -327,7 +327,7 @@ mod tests {
         assert_eq!(table.begin(2, 0, &[7], &[]).answer, named(Mode::Free, 2, 1));
         for (serial, reads, writes) in [(2, &[9][..], &[9][..]), (3, &[9], &[]), (4, &[], &[9])] {
             let begun = table.begin(2, 0, reads, writes);
-            assert_eq!(begun.answer, named(Mode::Blocked, 2, serial));
+            assert_eq!(begun.answer, Ok(Answer::Blocked(2, serial, 9)));
         }
         table.finish(1, 1);
         assert_eq!((table.cx[9], table.cs[9], table.cs[7]), (2, 1, 1));

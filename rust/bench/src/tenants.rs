@@ -24,7 +24,11 @@ pub struct Outcome {
 pub enum Answer {
     Done,
     Nothing,
+    /// An entry that runs or waits.
     Named(Mode, u8, u16),
+    /// A Begin that is Blocked: its tenant and serial, and the lowest record that
+    /// it clashed on.
+    Blocked(u8, u16, u8),
 }
 
 /// The state of an entry.

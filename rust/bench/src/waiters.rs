@@ -70,6 +70,20 @@ impl Table {
         clear
     }
 
+    /// Joins the list of every record, and gives the lowest in whose list
+    /// something ahead conflicts.
+    fn lowest_clash(&mut self, name: Name, reads: &[u8], writes: &[u8]) -> Option<u8> {
+        let mut lowest: Option<u8> = None;
+        let reads = reads.iter().map(|&record| (record, false));
+        let writes = writes.iter().map(|&record| (record, true));
+        for (record, written) in reads.chain(writes) {
+            if !self.join(record, name, written) {
+                lowest = Some(lowest.map_or(record, |other| other.min(record)));
+            }
+        }
+        lowest
+    }
+
     /// Leaves a record's list, and gives back who is left in it.
     fn leave(&mut self, record: u8, name: Name) -> Vec<Name> {
         let mut list = match self.lists.entry(record) {
@@ -124,18 +138,8 @@ impl Locks for Table {
         let reads = only_read.records();
         let serial = self.tenants.admit(who, price);
         self.held[usize::from(who) - 1] += 1;
-        let mut clear = true;
-        for &record in reads {
-            clear &= self.join(record, (who, serial), false);
-        }
-        for &record in writes {
-            clear &= self.join(record, (who, serial), true);
-        }
-        let mode = if clear {
-            Mode::unblocked(awaited)
-        } else {
-            Mode::Blocked
-        };
+        let clash = self.lowest_clash((who, serial), reads, writes);
+        let mode = clash.map_or(Mode::unblocked(awaited), |_| Mode::Blocked);
         let request = Request {
             mode,
             due: awaited,
@@ -144,7 +148,10 @@ impl Locks for Table {
         };
         self.requests.insert((who, serial), request);
         Outcome {
-            answer: Ok(Answer::Named(mode, who, serial)),
+            answer: Ok(match clash {
+                Some(lowest) => Answer::Blocked(who, serial, lowest),
+                None => Answer::Named(mode, who, serial),
+            }),
             burnt: price,
         }
     }
@@ -192,7 +199,7 @@ mod tests {
         table.begin(1, 0, &[], &[10]);
         table.begin(1, 0, &[], &[12]);
         let blocked = table.begin(2, 2, &[11], &[10, 12]);
-        let answer = Answer::Named(Mode::Blocked, 2, 1);
+        let answer = Answer::Blocked(2, 1, 10);
         assert_eq!((blocked.answer, blocked.burnt), (Ok(answer), 8));
         assert_eq!(table.finish(1, 1).answer, Ok(Answer::Done));
         assert_eq!(mode_of(&table, (2, 1)), Mode::Blocked);

@@ -69,6 +69,7 @@ pub fn opened<T: Locks>(fuel: &[(u8, u32)]) -> T {
 #[cfg(test)]
 mod tests {
     use super::*;
+    use crate::tenants::{Answer, Mode};
     use crate::waiters;
 
     #[test]
@@ -81,6 +82,37 @@ mod tests {
             let mut table: waiters::Table = holding(held);
             rounds(&mut table, 7);
             assert_eq!(shown(&table), told);
+        }
+    }
+
+    /// Behind 1.1, which reads 1 and 64 and writes 63, and 1.2, which writes 0 and
+    /// 255.
+    fn told<T: Locks>(reads: &[u8], writes: &[u8]) -> Option<u8> {
+        let mut table: T = opened(&[(1, 40), (2, 40)]);
+        table.begin(1, 0, &[1, 64], &[63]);
+        table.begin(1, 0, &[], &[0, 255]);
+        match table.begin(2, 0, reads, writes).answer {
+            Ok(Answer::Blocked(2, 1, lowest)) => Some(lowest),
+            Ok(Answer::Named(Mode::Free, 2, 1)) => None,
+            other => panic!("{:?}", other),
+        }
+    }
+
+    #[test]
+    fn a_blocked_begin_tells_the_lowest_record() {
+        let cases: [(&[u8], &[u8], Option<u8>); 8] = [
+            (&[63], &[], Some(63)),
+            (&[], &[64], Some(64)),
+            (&[0, 63], &[64, 255], Some(0)),
+            (&[63, 255], &[64], Some(63)),
+            (&[255], &[63, 64], Some(63)),
+            (&[1, 2, 255], &[3], Some(255)),
+            (&[1, 64], &[2], None),
+            (&[7], &[7], None),
+        ];
+        for (reads, writes, lowest) in cases {
+            assert_eq!(told::<inplace::Table>(reads, writes), lowest);
+            assert_eq!(told::<waiters::Table>(reads, writes), lowest);
         }
     }
 

@@ -3,7 +3,7 @@
 use crate::explain::{words, Verdict};
 use damsonpouch::{Locks, Outcome};
 use events::blocklines::{Machine, Said};
-use second::{block, Event};
+use second::{block, Event, Held};
 use std::cell::Cell;
 
 #[derive(Default)]
@@ -38,6 +38,15 @@ impl Machine for Linked {
             },
             burnt: outcome.burnt,
         }
+    }
+
+    fn held(&self) -> Result<Held, u8> {
+        let held = damsonpouch::held(&self.block).map_err(|refusal| refusal.number())?;
+        Ok(Held {
+            written: held.written,
+            read: held.read,
+            either: held.either,
+        })
     }
 
     fn block(&self) -> &[u8] {

@@ -1,13 +1,15 @@
-//! The kinds of generated block case. A case sets a block, makes one call on it
-//! and shows it, in the text of `blocklines`.
+//! The kinds of generated block case. A case sets a block, makes one call on it,
+//! asks how many records are held then and shows the block, in the text of
+//! `blocklines`.
 
 use crate::aim::{aimed, open};
 use crate::back::{numbers, record_line};
 use crate::blocklines::block_line;
 use crate::breaks::{another, unused_bytes, BREAKS};
+use crate::clashscenes::CLASHES;
 use crate::compose::{composed, composed_of, reached, PLACES};
 use crate::random::Random;
-use crate::scenes::SCENES;
+use crate::scenes::{Scene, SCENES};
 use crate::text::Call;
 use second::block::{self, BYTES};
 use second::table::TENANTS;
@@ -34,11 +36,12 @@ pub enum BlockKind {
     Lengths,
     Random,
     Open,
+    Clash,
 }
 
 /// In this order: a kind's place goes into its random numbers, so a new kind
 /// joins at the end.
-pub const BLOCK_KINDS: [(&str, BlockKind); 10] = [
+pub const BLOCK_KINDS: [(&str, BlockKind); 11] = [
     ("reached", BlockKind::Reached),
     ("composed", BlockKind::Composed),
     ("full", BlockKind::Full),
@@ -49,6 +52,7 @@ pub const BLOCK_KINDS: [(&str, BlockKind); 10] = [
     ("lengths", BlockKind::Lengths),
     ("random", BlockKind::Random),
     ("open", BlockKind::Open),
+    ("clash", BlockKind::Clash),
 ];
 
 impl BlockKind {
@@ -107,7 +111,7 @@ pub fn write_cases(
         writeln!(out, "# case {}: {}", before + 1, case.what)?;
         writeln!(out, "{}", block_line(&case.block))?;
         writeln!(out, "{}", call_line(&case.call))?;
-        writeln!(out, "show")?;
+        writeln!(out, "held\nshow")?;
     }
     Ok(())
 }
@@ -155,6 +159,7 @@ impl Cases {
             BlockKind::Full => sound("a full queue", random, full),
             BlockKind::Refusals => self.scene(),
             BlockKind::Open => self.open(),
+            BlockKind::Clash => self.clash(),
             BlockKind::Bytes if every_third => sound("a full queue", random, full),
             BlockKind::Lengths | BlockKind::Random if every_third => {
                 sound("reached by calls", random, reached)
@@ -170,8 +175,23 @@ impl Cases {
 
     /// The scenes in turn.
     fn scene(&mut self) -> Case {
-        let turn = self.seed.wrapping_add(self.given) % SCENES.len() as u64;
-        let (number, what, scene) = SCENES[turn as usize];
+        let (number, what, scene) = SCENES[self.turn(SCENES.len())];
+        self.played(number, what, scene)
+    }
+
+    /// The scenes of clashes in turn.
+    fn clash(&mut self) -> Case {
+        let (what, scene) = CLASHES[self.turn(CLASHES.len())];
+        self.played(0, what, scene)
+    }
+
+    /// Whose turn it is of so many.
+    fn turn(&self, count: usize) -> usize {
+        (self.seed.wrapping_add(self.given) % count as u64) as usize
+    }
+
+    /// A scene on a state that has a place for it.
+    fn played(&mut self, number: u8, what: &str, scene: Scene) -> Case {
         loop {
             let mut table = any_state(&mut self.random);
             if let Some(call) = scene(&mut self.random, &mut table) {

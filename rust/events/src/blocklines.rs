@@ -8,22 +8,24 @@
 //! block 11 0010 0202...      # these bytes become the block; none with `block`
 //! open 2 2                   # a call, as in `text.rs` but for `raw`
 //! open exactly 2 2           # just these shares are handed over: refusal 14
+//! held                       # prints `written 2 read 1 either 3`
 //! show                       # prints `block HEX`
 //! explain                    # prints the block in words
 //! ```
 //!
-//! A call prints its answer and the units burnt, as `free:1.1 4`. Before the
-//! first line the block is 2,176 zero bytes, as a host's fresh memory.
+//! A call prints its answer and the units burnt, as `free:1.1 4`. `held`, which
+//! burns nothing, prints its three counts, or `refused:15 0`. Before the first
+//! line the block is 2,176 zero bytes, as a host's fresh memory.
 
 use crate::program::{unwritten, Stop};
 use crate::text::{call, code, shown, unknown, Call, Words, WrongLine, BYTE_ORDER_MARK};
-use second::Event;
+use second::{Event, Held};
 use std::fs::File;
 use std::io::{self, BufRead, BufReader, BufWriter, Write};
 
 /// The words that a line may start with.
 const WORDS: &str =
-    "block, show, explain, open, grant, begin, finish, recheck, scan, pick, deliver";
+    "block, held, show, explain, open, grant, begin, finish, recheck, scan, pick, deliver";
 
 /// How many zero bytes the block is before the first line.
 const FRESH_BYTES: usize = 2_176;
@@ -32,7 +34,7 @@ const FRESH_BYTES: usize = 2_176;
 const BUFFER_BYTES: usize = 1 << 16;
 
 /// Whoever keeps a block and makes calls on it. The lines reach it through these
-/// four functions alone, in the order of the text, and it need not know the text.
+/// five functions alone, in the order of the text, and it need not know the text.
 /// `run` calls `take` before the first line, so a machine may start with any
 /// block, also with none.
 pub trait Machine {
@@ -46,6 +48,10 @@ pub trait Machine {
     /// there may be fewer or more than 16 shares.
     fn call(&mut self, call: Event<'_>) -> Said;
 
+    /// For `held`: how many records are held, or the number that it is refused
+    /// with. The block stays as it is.
+    fn held(&self) -> Result<Held, u8>;
+
     /// For `show`: the block's bytes as they are now.
     fn block(&self) -> &[u8];
 
@@ -58,7 +64,8 @@ pub trait Machine {
 #[derive(Clone, Debug, PartialEq, Eq)]
 pub struct Said {
     /// As in the listing of document 01: `ok`, `done`, `still`, `nothing`,
-    /// `refused:15`, `free:1.1`, `waiting:1.1` or `blocked:1.1`.
+    /// `refused:15`, `free:1.1`, `waiting:1.1` or `blocked:1.1`, and of a Begin
+    /// `blocked:1.1@10`.
     pub answer: String,
     /// The units burnt.
     pub burnt: u32,
@@ -69,6 +76,7 @@ pub struct Said {
 pub enum Line {
     Block(Vec<u8>),
     Call(Call),
+    Held,
     Show,
     Explain,
 }
@@ -158,6 +166,7 @@ fn obey(line: &Line, machine: &mut impl Machine, out: &mut impl Write) -> io::Re
             let said = machine.call(call.event());
             writeln!(out, "{} {}", said.answer, said.burnt)
         }
+        Line::Held => writeln!(out, "{}", held_line(machine.held())),
         Line::Show => writeln!(out, "{}", block_line(machine.block())),
         Line::Explain => out.write_all(machine.explain().as_bytes()),
     }
@@ -173,6 +182,7 @@ pub fn parse(mark: &str, line: &[u8]) -> Result<Option<Line>, String> {
     };
     let line = match word {
         "block" => return hex_bytes(words).map(Line::Block).map(Some),
+        "held" => Line::Held,
         "show" => Line::Show,
         "explain" => Line::Explain,
         "open" if words.peek() == Some("exactly") => {
@@ -217,6 +227,18 @@ fn hex_digit(digit: u8) -> Option<u8> {
         b'a'..=b'f' => Some(digit - b'a' + 10),
         b'A'..=b'F' => Some(digit - b'A' + 10),
         _ => None,
+    }
+}
+
+/// What `held` prints, without a line feed.
+pub fn held_line(held: Result<Held, u8>) -> String {
+    match held {
+        Ok(Held {
+            written,
+            read,
+            either,
+        }) => format!("written {} read {} either {}", written, read, either),
+        Err(number) => format!("refused:{} 0", number),
     }
 }
 

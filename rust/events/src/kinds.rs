@@ -1,6 +1,7 @@
 //! The kinds of generated file.
 
 use crate::boundary::boundary;
+use crate::clash::clash;
 use crate::damaged::damaged;
 use crate::early::early;
 use crate::load::{deep, mixed, remote, scarce};
@@ -21,11 +22,12 @@ pub enum Kind {
     Boundary,
     Early,
     Overlap,
+    Clash,
 }
 
 /// In this order: a kind's place goes into its random numbers, so a new kind
 /// joins at the end.
-pub const KINDS: [(&str, Kind); 10] = [
+pub const KINDS: [(&str, Kind); 11] = [
     ("mixed", Kind::Mixed),
     ("deep", Kind::Deep),
     ("scarce", Kind::Scarce),
@@ -36,6 +38,7 @@ pub const KINDS: [(&str, Kind); 10] = [
     ("boundary", Kind::Boundary),
     ("early", Kind::Early),
     ("overlap", Kind::Overlap),
+    ("clash", Kind::Clash),
 ];
 
 impl Kind {
@@ -67,5 +70,6 @@ pub fn generate(seed: u64, kind: Kind) -> Vec<u8> {
         Kind::Boundary => boundary(seed, &mut random),
         Kind::Early => early(&mut random),
         Kind::Overlap => overlap(&mut random),
+        Kind::Clash => clash(&mut random),
     }
 }

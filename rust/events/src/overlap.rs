@@ -181,7 +181,7 @@ fn falling(random: &mut Random, lists: &mut Lists) {
 }
 
 /// A call on the queue: an entry leaves, is promoted, or gets an answer.
-fn work(random: &mut Random, sheet: &mut Sheet) {
+pub(crate) fn work(random: &mut Random, sheet: &mut Sheet) {
     match random.below(8) {
         0 | 1 => {
             if let Some(name) = random.any_of(&sheet.names_in(State::Free)) {

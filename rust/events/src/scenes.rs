@@ -67,7 +67,7 @@ pub const SCENES: [(u8, &str, Scene); 37] = [
     (0, "pick with answers in", pick_answered),
 ];
 
-fn meter(table: &mut Table, tenant: u8) -> &mut Meter {
+pub(crate) fn meter(table: &mut Table, tenant: u8) -> &mut Meter {
     &mut table.meters[usize::from(tenant) - 1]
 }
 
@@ -237,12 +237,18 @@ fn serials_given(random: &mut Random, table: &mut Table) -> Option<Call> {
     Some(begin_of(tenant, 0, near_lists(random, table)))
 }
 
-/// A begin of a tenant with a place and a serial left, and its price.
-fn good_begin(random: &mut Random, table: &mut Table) -> Option<(u8, Lists, u32)> {
+/// A tenant with a place and a serial left.
+pub(crate) fn able(random: &mut Random, table: &mut Table) -> Option<u8> {
     let tenant = with_a_place(random, table);
     if meter(table, tenant).serials == MOST_SERIALS {
         return None;
     }
+    Some(tenant)
+}
+
+/// A begin of such a tenant, and its price.
+fn good_begin(random: &mut Random, table: &mut Table) -> Option<(u8, Lists, u32)> {
+    let tenant = able(random, table)?;
     let lists = near_lists(random, table);
     let price = price::begin(lists.n());
     Some((tenant, lists, price))

@@ -164,6 +164,27 @@ impl Lists {
         }
     }
 
+    /// One record, which is written or read.
+    pub fn of_one(record: u8, writes: bool) -> Lists {
+        let mut lists = Lists::default();
+        lists.add(record, writes);
+        lists
+    }
+
+    /// One record more, in its place.
+    pub fn add(&mut self, record: u8, writes: bool) {
+        if writes {
+            self.writes.push(record);
+        } else {
+            self.reads.push(record);
+        }
+        self.sort();
+    }
+
+    pub fn has(&self, record: u8) -> bool {
+        self.reads.contains(&record) || self.writes.contains(&record)
+    }
+
     /// Lists that keep refusals 3 and 4: that many reads and writes, no record
     /// twice, be it in one list or in both, out of `pool` as far as it reaches.
     pub fn drawn(random: &mut Random, pool: &[u8], reads: usize, writes: usize) -> Lists {

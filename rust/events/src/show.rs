@@ -2,7 +2,7 @@
 //! lines are the proved program's; the state is the second program's, which
 //! says where it would have written another line.
 
-use second::{apply, listing, Entry, Reader, Table};
+use second::{apply, listing, Entry, Reader, State, Table};
 use std::io::{self, Write};
 
 /// What a reader is told where the two programs part.
@@ -75,10 +75,11 @@ fn quoted(line: &[u8]) -> String {
     format!("{:?}", String::from_utf8_lossy(line))
 }
 
-/// The queue, front first; the counters that are not 0; and for each tenant
-/// with a share or fuel the places it holds and its fuel.
+/// The queue, front first, with what each Blocked entry waits for; the counters
+/// that are not 0; and for each tenant with a share or fuel the places it holds
+/// and its fuel.
 pub fn view(table: &Table) -> String {
-    let mut rows = queue_rows(&table.queue);
+    let mut rows = queue_rows(table);
     rows.extend(counter_row("Cx", &table.queue, |entry| {
         &entry.request.writes
     }));
@@ -91,16 +92,31 @@ pub fn view(table: &Table) -> String {
         .collect()
 }
 
-fn queue_rows(queue: &[Entry]) -> Vec<String> {
-    if queue.is_empty() {
+fn queue_rows(table: &Table) -> Vec<String> {
+    if table.queue.is_empty() {
         return vec![String::from("queue empty")];
     }
-    let mut table = Vec::new();
-    for (at, entry) in queue.iter().enumerate() {
+    let mut rows = Vec::new();
+    for (at, entry) in table.queue.iter().enumerate() {
         let label = if at == 0 { "front" } else { "" };
-        table.push(entry_cells(label, entry));
+        let mut cells = entry_cells(label, entry);
+        cells.push(match entry.state {
+            State::Blocked => waits_for(table.clash_ahead(at)),
+            _ => String::new(),
+        });
+        rows.push(cells);
     }
-    aligned(&table)
+    aligned(&rows)
+}
+
+/// What a Blocked entry waits for: the lowest record on which it conflicts with
+/// an entry ahead now. Those ahead may have left since it was begun, and it stays
+/// Blocked until it is promoted.
+fn waits_for(record: Option<u8>) -> String {
+    match record {
+        Some(record) => format!("waits for record {}", record),
+        None => String::from("nothing ahead conflicts"),
+    }
 }
 
 fn entry_cells(label: &str, entry: &Entry) -> Vec<String> {

@@ -1,9 +1,9 @@
 //! The text that drives a block, and the driver on a machine that only notes
 //! what reaches it.
 
-use events::blocklines::{block_line, parse, run, Line, Machine, Said, Trouble};
+use events::blocklines::{block_line, held_line, parse, run, Line, Machine, Said, Trouble};
 use events::text::Call;
-use second::Event;
+use second::{Event, Held};
 use std::io::{self, Write};
 
 fn parsed(line: &str) -> Line {
@@ -93,9 +93,10 @@ fn lists_of_any_length() {
 
 #[test]
 fn wrong_lines() {
-    let known = "(known: block, show, explain, open, grant, begin, finish, recheck, scan, pick, \
-                 deliver)";
+    let known = "(known: block, held, show, explain, open, grant, begin, finish, recheck, scan, \
+                 pick, deliver)";
     assert_eq!(wrong("raw 05"), format!("unknown word \"raw\" {}", known));
+    assert_eq!(wrong("held 1"), "\"1\" is one word too many");
     assert_eq!(wrong("show all"), "\"all\" is one word too many");
     assert_eq!(wrong("explain it"), "\"it\" is one word too many");
     assert_eq!(wrong("scan 256"), "tenant: 256 is not in 0 to 255");
@@ -105,7 +106,21 @@ fn wrong_lines() {
     assert!(parse("", b"pick \xFE").is_err());
 }
 
-/// Notes what reaches it, and answers each call with its name.
+#[test]
+fn held_is_a_line_of_its_own() {
+    assert_eq!(parsed("held"), Line::Held);
+    assert_eq!(parsed("\theld # how many\r\n"), Line::Held);
+    let held = Held {
+        written: 256,
+        read: 0,
+        either: 256,
+    };
+    assert_eq!(held_line(Ok(held)), "written 256 read 0 either 256");
+    assert_eq!(held_line(Err(15)), "refused:15 0");
+}
+
+/// Notes what reaches it, and answers each call with its name. It holds as many
+/// records as its block has bytes, if there are any.
 #[derive(Default)]
 struct Notes {
     block: Vec<u8>,
@@ -122,6 +137,17 @@ impl Machine for Notes {
         Said {
             answer: String::from(call.call()),
             burnt: self.calls,
+        }
+    }
+
+    fn held(&self) -> Result<Held, u8> {
+        match self.block.len() as u16 {
+            0 => Err(15),
+            bytes => Ok(Held {
+                written: bytes,
+                read: 0,
+                either: bytes,
+            }),
         }
     }
 
@@ -142,12 +168,14 @@ fn ran(text: &[u8]) -> (String, Result<(), Trouble>) {
 
 #[test]
 fn the_driver_writes_what_the_lines_give() {
-    let text = b"\xEF\xBB\xBFexplain\n\nblock 0aFF\n# no line\nshow\npick # first\nscan 3\nblock\nshow\nexplain";
+    let text = b"\xEF\xBB\xBFexplain\n\nblock 0aFF\n# no line\nshow\npick # first\nheld\nscan 3\n\
+                 block\nheld\nshow\nexplain";
     let (out, ended) = ran(text);
     assert!(ended.is_ok());
     assert_eq!(
         out,
-        "2176 bytes\nblock 0aff\npick 1\nscan 2\nblock\n0 bytes\n"
+        "2176 bytes\nblock 0aff\npick 1\nwritten 2 read 0 either 2\nscan 2\n\
+         refused:15 0\nblock\n0 bytes\n"
     );
     let zeros = ran(b"show\n").0;
     assert_eq!(zeros, format!("block {}\n", "00".repeat(2_176)));

@@ -46,7 +46,8 @@ fn blockgen_writes_the_cases_of_a_seed() {
 
 #[test]
 fn blockgen_names_its_kinds() {
-    let names = "reached\ncomposed\nfull\nrefusals\nbroken\nbytes\nunused\nlengths\nrandom\nopen\n";
+    let names = "reached\ncomposed\nfull\nrefusals\nbroken\nbytes\nunused\nlengths\nrandom\nopen\n\
+                 clash\n";
     assert_eq!(succeeded(blockgen(&["--kinds"])), names.as_bytes());
     let usage = "usage: blockgen SEED KIND [COUNT], or blockgen --kinds\n";
     let wrong: [(&[&str], &str); 5] = [
@@ -74,6 +75,31 @@ fn blocksecond_answers_each_line() {
          sound\n    front 1.1 free writes 10\n    Cx 10=1\n    fuel 1=36 2=0, places 1=1/2 2=0/2\n\
          block 11\nrefused:15 0\n"
     );
+}
+
+/// `held` tells, and changes nothing: the block is shown before and after it.
+#[test]
+fn blocksecond_tells_what_is_held() {
+    let text = b"held\nopen 2 2\nheld\ngrant 1 40\ngrant 2 40\nbegin 1 reads 9 writes 10 20\n\
+                 begin 2 reads 8 20 writes 9\nshow\nheld\nshow\nblock 11\nheld\nshow\n";
+    let out = String::from_utf8(succeeded(blocksecond(&[], text))).expect("it is text");
+    let lines: Vec<&str> = out.lines().collect();
+    assert_eq!(
+        lines[..7],
+        [
+            "refused:15 0",
+            "ok 0",
+            "written 0 read 0 either 0",
+            "ok 0",
+            "ok 0",
+            "free:1.1 8",
+            "blocked:2.1@9 8",
+        ]
+    );
+    assert_eq!(lines[8], "written 3 read 3 either 4");
+    assert!(lines[7].starts_with("block 110010"));
+    assert_eq!(lines[7], lines[9]);
+    assert_eq!(lines[10..], ["refused:15 0", "block 11"]);
 }
 
 #[test]
@@ -105,7 +131,7 @@ fn blocksecond_reads_a_file() {
     let out = succeeded(blocksecond(&[name], b""));
     assert_eq!(out, succeeded(blocksecond(&[], &text)));
     let lines = out.split(|&byte| byte == b'\n').count();
-    assert_eq!(lines, 2 * 10 + 1);
+    assert_eq!(lines, 3 * 10 + 1);
     let (_, message) = failed(blocksecond(&["no-such-file"], b""));
     assert!(message.starts_with("blocksecond: no-such-file: "));
     for arguments in [&["one", "two"][..], &["--explain"]] {

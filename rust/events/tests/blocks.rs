@@ -6,9 +6,10 @@ use events::blockkinds::{
 };
 use events::blocklines::{block_line, parse, Line};
 use events::breaks::BREAKS;
+use events::clashscenes::CLASHES;
 use events::scenes::SCENES;
 use second::block::{self, Broken, BYTES, CLAUSES};
-use second::{Answer, Event, Outcome, State, Table};
+use second::{Answer, Entry, Event, Held, Outcome, State, Table};
 use std::collections::BTreeSet;
 
 const SEEDS: u64 = 20;
@@ -82,6 +83,54 @@ fn a_scene_meets_its_refusal() {
     }
 }
 
+/// What is held after a call: as many as the block has counters above 0, and 15
+/// where it is not sound.
+#[test]
+fn held_counts_the_counters_above_0() {
+    let (mut refused, mut counted) = (0, 0);
+    for (what, case) in batch() {
+        let (_, after) = made(&case);
+        let held = block::held(&after).map_err(|refusal| refusal.number());
+        if block::read(&after).is_err() {
+            assert_eq!(held, Err(15), "{}", what);
+            refused += 1;
+            continue;
+        }
+        let (cx, cs) = (&after[121..377], &after[380..636]);
+        let above = |counters: &[u8]| counters.iter().filter(|&&count| count > 0).count() as u16;
+        let both: Vec<u8> = cx.iter().zip(cs).map(|(x, s)| x | s).collect();
+        let (written, read, either) = (above(cx), above(cs), above(&both));
+        let wanted = Held {
+            written,
+            read,
+            either,
+        };
+        assert_eq!(held, Ok(wanted), "{}", what);
+        counted += u32::from(written > 0 && read > 0 && either < written + read);
+    }
+    assert!(refused > 1_000, "only {} refused", refused);
+    assert!(counted > 100, "only {} with a record in both", counted);
+}
+
+/// A Begin of these scenes is Blocked, and a Finish takes its entry out.
+#[test]
+fn scenes_of_clashes_are_what_they_say() {
+    let cases = (0..SEEDS).flat_map(|seed| Cases::new(seed, BlockKind::Clash).take(CASES));
+    let mut met = BTreeSet::new();
+    for case in cases {
+        let answer = answered(&case);
+        let wanted = ["begin blocked", "finish done"];
+        assert!(
+            wanted.contains(&answer.as_str()),
+            "{}: {}",
+            case.what,
+            answer
+        );
+        met.insert(answer);
+    }
+    assert_eq!(met.len(), 2, "{:?}", met);
+}
+
 #[test]
 fn a_third_of_each_kind_is_sound() {
     for (name, kind) in BLOCK_KINDS {
@@ -105,6 +154,11 @@ const WANTED: &str = "\
     begin refused:8, begin refused:9, begin refused:15,\
     begin free of overlapping lists, begin waiting of overlapping lists,\
     begin blocked of overlapping lists,\
+    clash on 0, clash on 63, clash on 64, clash on 127, clash on 128, clash on 191, clash on 192,\
+    clash on 255, clash by a read, clash by a write over a read, clash by a write over a write,\
+    clash on the lowest of several, clash behind a lower record that both read,\
+    clash with a blocked entry alone, clash on the highest of 15 records,\
+    finish that leaves a record held, finish that lets a record go,\
     finish done, finish refused:1, finish refused:2, finish refused:10, finish refused:11,\
     finish refused:15,\
     recheck still, recheck free, recheck waiting, recheck refused:1, recheck refused:2,\
@@ -137,6 +191,8 @@ fn everything_is_reached_and_nothing_else() {
                 shapes(&table, &mut seen);
                 seen.extend(answers_in(&case, &table));
                 seen.extend(overlap(&case));
+                seen.extend(clash(&case, &table));
+                seen.extend(released(&case, &table));
             }
             Err(broken) => {
                 seen.insert(breach(&case.block, &broken));
@@ -170,6 +226,70 @@ fn overlap(case: &Case) -> Option<String> {
         return None;
     }
     Some(format!("{} of overlapping lists", answered(case)))
+}
+
+/// What is true of a Begin that is Blocked, by the record that it tells.
+fn clash(case: &Case, before: &Table) -> Vec<String> {
+    let (lowest, begun) = match (made(case).0.answer, case.call.event()) {
+        (
+            Answer::Entry {
+                clash: Some(lowest),
+                ..
+            },
+            Event::Begin { reads, writes, .. },
+        ) => (lowest, second::Request::reduced(0, reads, writes)),
+        _ => return Vec::new(),
+    };
+    let holders = |record: u8| before.queue.iter().filter(move |entry| has(entry, record));
+    let written = |record| holders(record).any(|entry| entry.request.writes.contains(&record));
+    let writes = begun.writes.contains(&lowest);
+    let how = match (writes, written(lowest)) {
+        (false, _) => "read",
+        (true, false) => "write over a read",
+        (true, true) => "write over a write",
+    };
+    let named = || begun.reads.iter().chain(&begun.writes).copied();
+    let clashing = |r: &u8| written(*r) || begun.writes.contains(r) && holders(*r).count() > 0;
+    let several = named().filter(clashing).count() > 1;
+    let shared = named().any(|r| r < lowest && holders(r).count() > 0);
+    let blocked = holders(lowest).all(|entry| entry.state == State::Blocked);
+    let highest = begun.n() == 15 && named().all(|r| r <= lowest);
+    let mut told = vec![format!("clash by a {}", how)];
+    for (what, there) in [
+        ("on the lowest of several", several),
+        ("behind a lower record that both read", shared),
+        ("with a blocked entry alone", blocked && !several),
+        ("on the highest of 15 records", highest && !several),
+    ] {
+        told.extend(there.then(|| format!("clash {}", what)));
+    }
+    if [0, 63, 64, 127, 128, 191, 192, 255].contains(&lowest) {
+        told.push(format!("clash on {}", lowest));
+    }
+    told
+}
+
+fn has(entry: &Entry, record: u8) -> bool {
+    entry.request.reads.contains(&record) || entry.request.writes.contains(&record)
+}
+
+/// What becomes of the records of an entry that leaves.
+fn released(case: &Case, before: &Table) -> Vec<String> {
+    let (tenant, serial) = match (made(case).0.answer, case.call.event()) {
+        (Answer::Done, Event::Finish { tenant, serial }) => (tenant, serial),
+        _ => return Vec::new(),
+    };
+    let named = |entry: &&Entry| (entry.tenant, entry.serial) == (tenant, serial);
+    let left = before.queue.iter().find(named).expect("it was there");
+    let records = left.request.reads.iter().chain(&left.request.writes);
+    let what = records.map(|&record| {
+        let mut others = before.queue.iter().filter(|entry| !named(entry));
+        match others.any(|entry| has(entry, record)) {
+            true => "finish that leaves a record held",
+            false => "finish that lets a record go",
+        }
+    });
+    what.map(String::from).collect()
 }
 
 /// A promotion of an entry that got answers while it was Blocked.
@@ -270,6 +390,10 @@ fn breaks_and_scenes_come_in_turn() {
     for (_, what, _) in SCENES {
         assert!(scenes.contains(what), "{}", what);
     }
+    let clashes = whats(BlockKind::Clash);
+    for (what, _) in CLASHES {
+        assert!(clashes.contains(what), "{}", what);
+    }
 }
 
 #[test]
@@ -321,6 +445,6 @@ fn a_seed_and_a_kind_give_the_same_text() {
         assert_ne!(file, text(8, kind, 20), "{}", name);
         assert!(file.starts_with(&text(7, kind, 5)), "{}", name);
         let lines = file.split(|&byte| byte == b'\n').count();
-        assert_eq!(lines, 20 * 4 + 1, "{}", name);
+        assert_eq!(lines, 20 * 5 + 1, "{}", name);
     }
 }

@@ -1,13 +1,13 @@
 //! What holds after every call of every generated file: the fuel adds up, the
 //! queue stays sound, refusals leave the state, the verdicts of the plain list
-//! are those of document 01's counters and maps, a promotion is Item 2's, and a
-//! request is Item 4's.
+//! are those of document 01's counters and maps, a promotion is Item 2's, a
+//! request is Item 4's, and a report is Item 5's.
 
 mod common;
 
 use common::{batch, walk, Step};
 use events::encode::encode;
-use second::{listing, Entry, Event, State, Table};
+use second::{listing, Answer, Entry, Event, Held, State, Table};
 
 const SEEDS: u64 = 120;
 const RECORDS: usize = 256;
@@ -270,6 +270,64 @@ fn begin_says_what_the_counters_say() {
     assert!(blocked > 1_000, "only {} blocked", blocked);
 }
 
+/// Item 5: "the lowest-numbered record that it clashed on, judged before its own
+/// counts". A Begin is Blocked exactly if there is one, and no other call tells
+/// any.
+#[test]
+fn a_blocked_begin_tells_its_lowest_clash() {
+    let (mut told, mut silent) = (0, 0);
+    for_each_step(|name, step| {
+        let clash = match step.outcome.answer {
+            Answer::Entry { clash, .. } => clash,
+            _ => None,
+        };
+        let (reads, writes) = asked(step).unwrap_or_default();
+        let before = Counters::of(&step.before.queue);
+        let clashes = |&record: &u8| {
+            let (cx, cs) = (before.cx(record), before.cs(record));
+            reads.contains(&record) && cx > 0 || writes.contains(&record) && (cx > 0 || cs > 0)
+        };
+        assert_eq!(clash, (0..=u8::MAX).find(clashes), "{}", name);
+        let blocked = step.answered_state() == Some(State::Blocked);
+        let begun = step.event.call() == "begin";
+        assert_eq!(clash.is_some(), blocked && begun, "{}", name);
+        let answer = step.outcome.answer.to_string();
+        assert_eq!(answer.contains('@'), clash.is_some(), "{}", name);
+        told += u32::from(clash.is_some());
+        silent += u32::from(blocked && !begun);
+    });
+    assert!(told > 1_000, "only {} told", told);
+    assert!(silent > 500, "only {} answers to Blocked entries", silent);
+}
+
+/// Item 5's "held": the numbers of records with Cx above 0, Cs above 0, either,
+/// after each Finish that takes an entry out.
+#[test]
+fn held_counts_what_the_counters_count() {
+    let mut still_held = 0;
+    for_each_step(|name, step| {
+        if step.outcome.answer != Answer::Done {
+            return;
+        }
+        let counters = Counters::of(&step.after.queue);
+        let count = |counted: &dyn Fn(u8) -> bool| {
+            let records = (0..=u8::MAX).filter(|&record| counted(record));
+            records.count() as u16
+        };
+        let wanted = Held {
+            written: count(&|record| counters.cx(record) > 0),
+            read: count(&|record| counters.cs(record) > 0),
+            either: count(&|record| counters.cx(record) + counters.cs(record) > 0),
+        };
+        assert_eq!(step.after.held(), wanted, "{}", name);
+        let left = &step.entry_before().expect("it has left").request;
+        let mut records = left.reads.iter().chain(&left.writes);
+        let others = |&record: &u8| counters.cx(record) + counters.cs(record) > 0;
+        still_held += u32::from(records.any(others));
+    });
+    assert!(still_held > 500, "only {} left a record held", still_held);
+}
+
 /// "If every written record has Cx = 1 and Cs = 0, and every read record has
 /// Cx = 0, the entry is promoted."
 #[test]
@@ -347,7 +405,7 @@ fn scan_says_what_the_maps_say() {
             _ => return,
         };
         let answered = match step.outcome.answer {
-            second::Answer::Entry { tenant, serial, .. } => Some((tenant, serial)),
+            Answer::Entry { tenant, serial, .. } => Some((tenant, serial)),
             _ => None,
         };
         let end = ScanEnd {

@@ -1,4 +1,5 @@
-//! The listing printed in document 01, byte for byte.
+//! The listing printed in document 01, byte for byte, with what Item 5 adds to
+//! lines 6 and 7.
 
 use events::text::to_bytes;
 use second::listing;
@@ -24,8 +25,8 @@ const LISTING: &str = "no call answer burnt left
 3 grant ok 0 40
 4 begin free:1.1 4 36
 5 begin free:1.2 4 32
-6 begin blocked:2.1 6 34
-7 begin blocked:2.2 4 30
+6 begin blocked:2.1@10 6 34
+7 begin blocked:2.2@12 4 30
 8 finish done 0 32
 9 recheck still 3 27
 10 scan free:2.1 6 21

@@ -6,7 +6,7 @@ use second::listing;
 use std::fs;
 use std::path::{Path, PathBuf};
 
-const NAMES: [&str; 8] = [
+const NAMES: [&str; 9] = [
     "twelve-lines",
     "sale",
     "dry",
@@ -15,6 +15,7 @@ const NAMES: [&str; 8] = [
     "letgo",
     "early",
     "stock",
+    "which",
 ];
 
 fn folder() -> PathBuf {
@@ -47,7 +48,7 @@ fn calls(text: &str) -> Vec<(&str, &str)> {
 }
 
 #[test]
-fn the_eight_are_there() {
+fn the_nine_are_there() {
     let found: Vec<String> = examples().into_iter().map(|(name, _)| name).collect();
     for name in NAMES {
         assert!(found.iter().any(|known| known == name), "{}", name);

@@ -1,5 +1,5 @@
-//! Each kind of generated file is what its name says; of `overlap` more is said
-//! in `overlap.rs`.
+//! Each kind of generated file is what its name says; of `overlap` and `clash`
+//! more is said in `overlap.rs` and `clash.rs`.
 
 mod common;
 
@@ -81,6 +81,7 @@ fn loads_are_good_files() {
         Kind::Worst,
         Kind::Early,
         Kind::Overlap,
+        Kind::Clash,
     ];
     for kind in good {
         for file in files(kind, SEEDS) {

@@ -52,14 +52,16 @@ fn eventgen_writes_the_file_of_a_seed() {
 
 #[test]
 fn eventgen_names_its_kinds() {
-    let names = "mixed\ndeep\nscarce\nremote\nrefusals\nworst\ndamaged\nboundary\nearly\noverlap\n";
+    let names = "mixed\ndeep\nscarce\nremote\nrefusals\nworst\ndamaged\nboundary\nearly\noverlap\n\
+                 clash\n";
     assert_eq!(succeeded(eventgen(&["--kinds"])), names.as_bytes());
 }
 
 #[test]
 fn eventgen_names_the_kinds_when_it_is_called_wrongly() {
     let kinds = "KIND is one of: mixed, deep, scarce, remote, refusals, worst, damaged, boundary, \
-                 early, overlap; to measure with: long-scans, long-queues, long-picks, long-hot\n";
+                 early, overlap, clash; to measure with: long-scans, long-queues, long-picks, \
+                 long-hot\n";
     let wrong: [(&[&str], &str); 7] = [
         (&[], "usage: eventgen SEED KIND, or eventgen --kinds\n"),
         (&["1"], "usage: eventgen SEED KIND, or eventgen --kinds\n"),

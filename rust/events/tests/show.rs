@@ -45,21 +45,21 @@ no call answer burnt left
     front 1.1 free writes 10
     Cx 10=1
     fuel 1=36 2=40, places 1=1/2 2=0/2
-5 begin blocked:2.1 6 34
+5 begin blocked:2.1@10 6 34
     front 1.1 free             writes 10
-          2.1 blocked reads 11 writes 10
+          2.1 blocked reads 11 writes 10 waits for record 10
     Cx 10=2
     Cs 11=1
     fuel 1=36 2=34, places 1=1/2 2=1/2
 6 begin free:1.2 6 30
     front 1.1 free               writes 10
-          2.1 blocked reads 11   writes 10
+          2.1 blocked reads 11   writes 10 waits for record 10
           1.2 free    reads 9 11
     Cx 10=2
     Cs 9=1 11=2
     fuel 1=30 2=34, places 1=2/2 2=1/2
 7 finish done 0 30
-    front 2.1 blocked reads 11   writes 10
+    front 2.1 blocked reads 11   writes 10 nothing ahead conflicts
           1.2 free    reads 9 11
     Cx 10=1
     Cs 9=1 11=2
@@ -76,15 +76,46 @@ fn lists_that_overlap() {
     let shown = view(text);
     let last = &shown[shown.find("6 begin").expect("the last line")..];
     let wanted = "\
-6 begin blocked:1.2 8 28
+6 begin blocked:1.2@7 8 28
     front 1.1 free             writes 7
-          2.1 blocked          writes 3 7 21
-          1.2 blocked reads 30 writes 7 21
+          2.1 blocked          writes 3 7 21 waits for record 7
+          1.2 blocked reads 30 writes 7 21   waits for record 7
     Cx 3=1 7=3 21=2
     Cs 30=1
     fuel 1=28 2=32, places 1=2/2 2=1/1
 ";
     assert_eq!(last, wanted);
+}
+
+/// What a Blocked entry waits for is told as it is now, not as it was at its
+/// Begin: the lowest record falls away with its holder, Blocked ones count too,
+/// and a Deliver changes nothing of it.
+#[test]
+fn what_each_blocked_request_waits_for() {
+    let text = "open 2 1 2\ngrant 1 40\ngrant 2 40\ngrant 3 40\n\
+                begin 1 writes 0\nbegin 1 reads 255\n\
+                begin 2 awaited 1 reads 0 9 writes 255\nbegin 3 writes 9\n\
+                finish 1 1\ndeliver 2 1\nfinish 1 2\n";
+    let shown = view(text);
+    let after = |start: &str| -> Vec<String> {
+        let shown = &shown[shown.find(start).expect("the line is there")..];
+        let rows = shown.lines().skip(1).filter(|row| row.contains("blocked"));
+        rows.take(2).map(|row| row.trim().to_string()).collect()
+    };
+    let first = "2.1 blocked awaited 1 due 1 reads 0 9 writes 255 waits for record 0";
+    let second = format!("3.1 blocked{:27}writes 9   waits for record 9", "");
+    assert!(shown.contains("7 begin blocked:2.1@0 8 32\n"), "{}", shown);
+    assert_eq!(after("8 begin blocked:3.1@9 4 36\n"), [first, &second]);
+    let first = first.replace("record 0", "record 255");
+    assert_eq!(after("9 finish done 0 32\n"), [&first[..], &second]);
+    let first = first.replace("due 1", "due 0");
+    assert_eq!(
+        after("10 deliver blocked:2.1 0 32\n"),
+        [&first[..], &second]
+    );
+    let first = first.replace("waits for record 255", "nothing ahead conflicts");
+    let first = format!("front {}", first);
+    assert_eq!(after("11 finish done 0 32\n"), [&first[..], &second]);
 }
 
 #[test]

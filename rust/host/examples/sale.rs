@@ -40,7 +40,9 @@ fn main() -> Result<(), Box<dyn std::error::Error>> {
     // The sale reads the lamps and writes them back. In both lists they count as
     // written only: two records in all.
     let sale = locks.begin(SELLER, 0, &[LAMPS, PRICES], &[LAMPS]);
+    // The record behind the @ is the one that it waits for.
     let sale = entry(told("the seller sells a lamp", sale))?;
+    println!("{:32}{}", "records held", locks.held()?);
 
     let early = told("the seller looks, too early", locks.scan(SELLER));
     assert_eq!(early.answer, Ok(Answer::Nothing));

@@ -1,11 +1,11 @@
 //! The functions of `libdamsonpouch.a`, as the archive has them. No other file of
-//! Rust declares them: whoever links them takes this one, and brings the type
-//! `Reply` of 12 bytes that they hand back.
+//! Rust declares them: whoever links them takes this one, and brings the types
+//! that they hand back, `Reply` of 12 bytes and `Counts` of 8.
 //!
 //! Nothing compares these lines with the source that was proved; the tests give
 //! every call, every answer and every refusal through them.
 
-use super::Reply;
+use super::{Counts, Reply};
 
 extern "C" {
     pub(crate) fn damsonpouch_open(
@@ -51,4 +51,5 @@ extern "C" {
         serial: u16,
     ) -> Reply;
     pub(crate) fn damsonpouch_sound(block: *const u8, length: usize) -> bool;
+    pub(crate) fn damsonpouch_held(block: *const u8, length: usize) -> Counts;
 }

@@ -4,7 +4,9 @@
 //! A request asks for all its locks at once and is queued; the front of the
 //! queue may always run. Work is metered in fuel and paid by the tenant that
 //! made the call. The eight calls are methods of [`Locks`]; each gives an
-//! [`Outcome`]: an [`Answer`] or a [`Refusal`], and the units burnt.
+//! [`Outcome`]: an [`Answer`] or a [`Refusal`], and the units burnt. A Begin that
+//! is Blocked tells the record that held it up; [`Locks::held`] counts the
+//! records held.
 //!
 //! ```
 //! use damsonpouch::{Answer, Locks, Refusal, State, BLOCK_LENGTH};
@@ -16,10 +18,11 @@
 //! locks.grant(1, 40).answer?;
 //!
 //! match locks.begin(1, 0, &[], &[10]).answer? {
-//!     Answer::Entry { state: State::Free, tenant, serial } => {
+//!     Answer::Entry { state: State::Free, tenant, serial, .. } => {
 //!         // record 10 is this request's alone
 //!         locks.finish(tenant, serial).answer?;
 //!     }
+//!     Answer::Entry { clash: Some(record), .. } => println!("wait for record {}", record),
 //!     other => println!("not yet: {}", other),
 //! }
 //! # Ok(())
@@ -43,6 +46,6 @@ mod locks;
 mod outcome;
 mod refusal;
 
-pub use locks::{is_sound, Locks, BLOCK_LENGTH, TENANTS};
-pub use outcome::{Answer, Name, Outcome, State};
+pub use locks::{held, is_sound, Locks, BLOCK_LENGTH, TENANTS};
+pub use outcome::{Answer, Held, Name, Outcome, State};
 pub use refusal::Refusal;

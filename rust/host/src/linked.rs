@@ -14,12 +14,27 @@ pub(crate) struct Reply {
     pub state: u8,
     pub tenant: u8,
     pub serial: u16,
+    pub clashed: u8,
+    pub lowest: u8,
     pub burnt: u32,
 }
 
-/// As the C side has it: four bytes, a number in two, two that are not used, a
-/// number in four.
+/// As the C side has it: four bytes, a number in two, two bytes, a number in four.
 const _: () = assert!(std::mem::size_of::<Reply>() == 12 && std::mem::align_of::<Reply>() == 4);
+
+/// What `held` hands back.
+#[repr(C)]
+#[derive(Clone, Copy, Debug)]
+pub(crate) struct Counts {
+    pub number: u8,
+    pub written: u16,
+    pub read: u16,
+    pub either: u16,
+}
+
+/// As the C side has it: a byte, one that is not used, and three numbers in two
+/// each.
+const _: () = assert!(std::mem::size_of::<Counts>() == 8 && std::mem::align_of::<Counts>() == 2);
 
 // What every call below rests on: it asks for a block that is valid to read and
 // write for `length` bytes and that nobody else uses while the call runs, and
@@ -98,4 +113,9 @@ pub(crate) fn sound(block: &[u8]) -> bool {
     // SAFETY: pointer and length come from one slice, which is only read. The
     // function gives 0 or 1.
     unsafe { damsonpouch_sound(block.as_ptr(), block.len()) }
+}
+
+pub(crate) fn held(block: &[u8]) -> Counts {
+    // SAFETY: pointer and length come from one slice, which is only read.
+    unsafe { damsonpouch_held(block.as_ptr(), block.len()) }
 }

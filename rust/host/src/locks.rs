@@ -1,7 +1,8 @@
 //! The calls.
 
 use crate::linked;
-use crate::outcome::Outcome;
+use crate::outcome::{Held, Outcome};
+use crate::refusal::Refusal;
 
 /// The bytes of a block.
 pub const BLOCK_LENGTH: usize = 2176;
@@ -19,7 +20,20 @@ pub fn is_sound(block: &[u8]) -> bool {
     linked::sound(block)
 }
 
-/// The lock manager over a block that the host lends: eight calls, and a check.
+/// How many records are held, as [`Locks::held`], of a block that is only lent to
+/// be read.
+///
+/// ```
+/// use damsonpouch::{Refusal, BLOCK_LENGTH};
+///
+/// assert_eq!(damsonpouch::held(&[0; BLOCK_LENGTH]), Err(Refusal::NotSound));
+/// ```
+pub fn held(block: &[u8]) -> Result<Held, Refusal> {
+    Held::of(linked::held(block))
+}
+
+/// The lock manager over a block that the host lends: eight calls, a check, and a
+/// count of the records held.
 ///
 /// The block is the whole state. A call reads it, checks that it is
 /// [sound](Locks::is_sound), does what the call does, and writes it back;
@@ -38,7 +52,7 @@ pub fn is_sound(block: &[u8]) -> bool {
 /// locks.grant(1, 40).answer?;
 /// locks.grant(2, 40).answer?;
 /// assert_eq!(locks.begin(1, 0, &[], &[10]).to_string(), "free:1.1 4");
-/// assert_eq!(locks.begin(2, 0, &[], &[10, 12]).to_string(), "blocked:2.1 6");
+/// assert_eq!(locks.begin(2, 0, &[], &[10, 12]).to_string(), "blocked:2.1@10 6");
 /// assert_eq!(locks.finish(1, 1).to_string(), "done 0");
 /// assert_eq!(locks.scan(2).to_string(), "free:2.1 4");
 /// # Ok(())
@@ -98,6 +112,32 @@ impl<'a> Locks<'a> {
         is_sound(self.block)
     }
 
+    /// A host call: how many records are held by the entries in the queue. It
+    /// burns nothing and changes nothing, and is no call of an event file.
+    ///
+    /// Refusals: 15.
+    ///
+    /// ```
+    /// # let mut block = [0; damsonpouch::BLOCK_LENGTH];
+    /// # let mut locks = damsonpouch::Locks::over(&mut block);
+    /// # let _ = locks.open(&[4; 16]);
+    /// # let _ = locks.grant(1, 40);
+    /// # let _ = locks.grant(2, 40);
+    /// use damsonpouch::Held;
+    ///
+    /// assert_eq!(locks.begin(1, 0, &[3, 5], &[10]).to_string(), "free:1.1 8");
+    /// assert_eq!(locks.begin(2, 0, &[3], &[5]).to_string(), "blocked:2.1@5 6");
+    /// // 5 and 10 are written, 3 and 5 are read
+    /// let held = Held { written: 2, read: 2, either: 3 };
+    /// assert_eq!(locks.held(), Ok(held));
+    /// // 2.1 still reads 3 and writes 5
+    /// assert_eq!(locks.finish(1, 1).to_string(), "done 0");
+    /// assert_eq!(locks.held(), Ok(Held { written: 1, read: 1, either: 2 }));
+    /// ```
+    pub fn held(&self) -> Result<Held, Refusal> {
+        held(self.block)
+    }
+
     /// A host call: overwrites any block of the right length with a fresh
     /// state, in which tenant t has `shares[t - 1]` of the 64 queue places, no
     /// fuel, and no serial given.
@@ -148,8 +188,10 @@ impl<'a> Locks<'a> {
     /// taken out of the reads.
     ///
     /// The answer is the new entry: Blocked if it conflicts with an entry
-    /// ahead, else Waiting if it awaits answers, and else Free. Refusals, in
-    /// this order: 15, 1 to 9; of these 5 is no longer given.
+    /// ahead, else Waiting if it awaits answers, and else Free. One that is
+    /// Blocked tells the lowest record that it clashed on, its
+    /// [`clash`](crate::Answer::clash). Refusals, in this order: 15, 1 to 9; of
+    /// these 5 is no longer given.
     ///
     /// ```
     /// # let mut block = [0; damsonpouch::BLOCK_LENGTH];
@@ -159,10 +201,11 @@ impl<'a> Locks<'a> {
     /// use damsonpouch::{Answer, State};
     ///
     /// let begun = locks.begin(1, 0, &[3, 5], &[10]);
-    /// assert_eq!(begun.answer, Ok(Answer::Entry { state: State::Free, tenant: 1, serial: 1 }));
+    /// let free = Answer::Entry { state: State::Free, tenant: 1, serial: 1, clash: None };
+    /// assert_eq!(begun.answer, Ok(free));
     /// assert_eq!(begun.burnt, 8);
     /// assert_eq!(locks.begin(1, 2, &[7], &[]).to_string(), "waiting:1.2 4");
-    /// assert_eq!(locks.begin(1, 0, &[10], &[]).to_string(), "blocked:1.3 4");
+    /// assert_eq!(locks.begin(1, 0, &[10], &[]).to_string(), "blocked:1.3@10 4");
     /// // reads the stock, record 20, and writes it back: one record
     /// assert_eq!(locks.begin(1, 0, &[20], &[20]).to_string(), "free:1.4 4");
     /// assert_eq!(locks.begin(1, 0, &[], &[20, 20]).to_string(), "refused:4 1");
@@ -200,7 +243,7 @@ impl<'a> Locks<'a> {
     /// # let _ = locks.open(&[4; 16]);
     /// # let _ = locks.grant(1, 40);
     /// # let _ = locks.begin(1, 0, &[], &[10]);
-    /// assert_eq!(locks.begin(1, 0, &[10], &[]).to_string(), "blocked:1.2 4");
+    /// assert_eq!(locks.begin(1, 0, &[10], &[]).to_string(), "blocked:1.2@10 4");
     /// assert_eq!(locks.recheck(1, 2).to_string(), "still 2");
     /// assert_eq!(locks.finish(1, 1).to_string(), "done 0");
     /// assert_eq!(locks.recheck(1, 2).to_string(), "free:1.2 2");
@@ -222,7 +265,7 @@ impl<'a> Locks<'a> {
     /// # let _ = locks.open(&[4; 16]);
     /// # let _ = locks.grant(1, 40);
     /// # let _ = locks.begin(1, 0, &[], &[10]);
-    /// assert_eq!(locks.begin(1, 0, &[10], &[]).to_string(), "blocked:1.2 4");
+    /// assert_eq!(locks.begin(1, 0, &[10], &[]).to_string(), "blocked:1.2@10 4");
     /// assert_eq!(locks.scan(1).to_string(), "nothing 5");
     /// assert_eq!(locks.finish(1, 1).to_string(), "done 0");
     /// assert_eq!(locks.scan(1).to_string(), "free:1.2 3");
@@ -263,7 +306,7 @@ impl<'a> Locks<'a> {
     /// # let _ = locks.open(&[4; 16]);
     /// # let _ = locks.grant(1, 40);
     /// assert_eq!(locks.begin(1, 2, &[], &[10]).to_string(), "waiting:1.1 4");
-    /// assert_eq!(locks.begin(1, 1, &[10], &[]).to_string(), "blocked:1.2 4");
+    /// assert_eq!(locks.begin(1, 1, &[10], &[]).to_string(), "blocked:1.2@10 4");
     /// assert_eq!(locks.deliver(1, 1).to_string(), "waiting:1.1 0");
     /// assert_eq!(locks.deliver(1, 1).to_string(), "free:1.1 0");
     /// assert_eq!(locks.deliver(1, 1).to_string(), "refused:12 0");

@@ -1,6 +1,6 @@
 //! What a call hands back.
 
-use crate::linked::Reply;
+use crate::linked::{Counts, Reply};
 use crate::refusal::Refusal;
 use std::fmt;
 
@@ -45,7 +45,8 @@ impl fmt::Display for Name {
 }
 
 /// The answer of a call that was not refused. Its [`Display`](fmt::Display) is
-/// the listing's word, as `free:1.1`.
+/// the listing's word, as `free:1.1`, and of a Begin that is Blocked, with the
+/// record, `blocked:2.1@10`.
 #[derive(Clone, Copy, Debug, PartialEq, Eq, Hash)]
 pub enum Answer {
     /// Of Open and Grant.
@@ -66,6 +67,11 @@ pub enum Answer {
         tenant: u8,
         /// Its serial.
         serial: u16,
+        /// Of a Begin whose entry is Blocked: the lowest record that it clashed
+        /// on, which an entry ahead writes, or reads where this one writes it.
+        /// `None` in every other answer, that of a Deliver to a Blocked entry
+        /// too.
+        clash: Option<u8>,
     },
 }
 
@@ -85,6 +91,29 @@ impl Answer {
             _ => None,
         }
     }
+
+    /// The lowest record that a Begin clashed on, if it is Blocked: what it has
+    /// to wait for. Others may be in its way too, and by the time that this one
+    /// is let go it may wait for another.
+    ///
+    /// ```
+    /// # let mut block = [0; damsonpouch::BLOCK_LENGTH];
+    /// # let mut locks = damsonpouch::Locks::over(&mut block);
+    /// # let _ = locks.open(&[4; 16]);
+    /// # let _ = locks.grant(1, 40);
+    /// use damsonpouch::Answer;
+    ///
+    /// assert_eq!(locks.begin(1, 0, &[], &[10, 30]).to_string(), "free:1.1 6");
+    /// let begun = locks.begin(1, 0, &[7, 30], &[10]);
+    /// assert_eq!(begun.to_string(), "blocked:1.2@10 8");
+    /// assert_eq!(begun.answer.map(Answer::clash), Ok(Some(10)));
+    /// ```
+    pub fn clash(self) -> Option<u8> {
+        match self {
+            Answer::Entry { clash, .. } => clash,
+            _ => None,
+        }
+    }
 }
 
 impl fmt::Display for Answer {
@@ -98,7 +127,11 @@ impl fmt::Display for Answer {
                 state,
                 tenant,
                 serial,
-            } => write!(out, "{}:{}.{}", state, tenant, serial),
+                clash,
+            } => {
+                write!(out, "{}:{}.{}", state, tenant, serial)?;
+                clash.map_or(Ok(()), |record| write!(out, "@{}", record))
+            }
         }
     }
 }
@@ -156,6 +189,7 @@ impl From<Reply> for Outcome {
                 state: state(reply),
                 tenant: reply.tenant,
                 serial: reply.serial,
+                clash: clash(reply),
             }),
             _ => other_archive(reply),
         };
@@ -179,9 +213,56 @@ fn state(reply: Reply) -> State {
     }
 }
 
-/// The archive that this crate was written for gives no such reply, whatever
+/// The two bytes were not used once: an older archive may have anything there.
+fn clash(reply: Reply) -> Option<u8> {
+    match (reply.clashed, reply.lowest) {
+        (0, 0) => None,
+        (1, lowest) if reply.state == 2 => Some(lowest),
+        _ => other_archive(reply),
+    }
+}
+
+/// How many of the 256 records are held by the entries in the queue, Blocked ones
+/// among them. A record that some entries read and others write counts in each of
+/// the three, and once.
+///
+/// Its [`Display`](fmt::Display) is `written 2 read 1 either 3`.
+#[derive(Clone, Copy, Debug, Default, PartialEq, Eq, Hash)]
+pub struct Held {
+    /// Records that some entry writes: those with Cx above 0.
+    pub written: u16,
+    /// Records that some entry reads and does not write: those with Cs above 0.
+    pub read: u16,
+    /// Records that some entry writes or reads.
+    pub either: u16,
+}
+
+impl fmt::Display for Held {
+    fn fmt(&self, out: &mut fmt::Formatter<'_>) -> fmt::Result {
+        write!(
+            out,
+            "written {} read {} either {}",
+            self.written, self.read, self.either
+        )
+    }
+}
+
+impl Held {
+    pub(crate) fn of(counts: Counts) -> Result<Held, Refusal> {
+        match counts.number {
+            0 => Ok(Held {
+                written: counts.written,
+                read: counts.read,
+                either: counts.either,
+            }),
+            number => Err(Refusal::from_number(number).unwrap_or_else(|| other_archive(counts))),
+        }
+    }
+}
+
+/// The archive that this crate was written for hands back no such thing, whatever
 /// the call: another one was linked.
-fn other_archive(reply: Reply) -> ! {
+fn other_archive(reply: impl fmt::Debug) -> ! {
     panic!(
         "libdamsonpouch.a is not the one that this crate was written for: it gave {:?}",
         reply

@@ -7,7 +7,7 @@ mod common;
 use common::{
     base, entry, gives, Call, Entry, Picture, BLOCKED, COUNT, CS, CX, ENTRIES, FREE, WAITING,
 };
-use damsonpouch::{Locks, BLOCK_LENGTH};
+use damsonpouch::{held, Locks, Refusal, BLOCK_LENGTH};
 
 fn is_sound(block: &[u8]) -> bool {
     Locks::over(&mut block.to_vec()).is_sound()
@@ -36,6 +36,7 @@ fn unsound(why: &str, block: &[u8]) {
     for call in calls {
         gives(block, call, "refused:15 0", block);
     }
+    assert_eq!(held(block), Err(Refusal::NotSound), "{}", why);
     let fresh = Picture::fresh(&[1; 16]).bytes();
     if block.len() == BLOCK_LENGTH {
         gives(block, |locks| locks.open(&[1; 16]), "ok 0", &fresh);

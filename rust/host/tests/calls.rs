@@ -81,7 +81,7 @@ fn begin_admits_free_waiting_or_blocked() {
     gives(
         &before,
         |locks| locks.begin(1, 2, &[12, 255], &[]),
-        "blocked:1.3 6",
+        "blocked:1.3@12 6",
         &base()
             .fuel(1, 34)
             .serials(1, 3)
@@ -175,7 +175,7 @@ fn two_that_write_a_record_back() {
         gives(
             &first.bytes(),
             |locks| locks.begin(2, 0, reads, writes),
-            "blocked:2.1 4",
+            "blocked:2.1@7 4",
             &second.bytes(),
         );
     }
@@ -189,7 +189,7 @@ fn readers_behind_a_record_in_both_lists() {
     let mut locks = Locks::over(&mut block);
     let calls: [(Call, &str); 8] = [
         (|locks| locks.begin(1, 0, &[7, 30], &[7]), "free:1.1 6"),
-        (|locks| locks.begin(2, 1, &[7, 9], &[9]), "blocked:2.1 6"),
+        (|locks| locks.begin(2, 1, &[7, 9], &[9]), "blocked:2.1@7 6"),
         (|locks| locks.begin(2, 0, &[30], &[]), "free:2.2 4"),
         // 1, and 3 for 1.1, 3 for 2.1, 2 for 2.2: one unit short
         (|locks| locks.grant(1, 8), "ok 0"),
@@ -418,8 +418,11 @@ fn the_documents_listing() {
         (|locks| locks.grant(2, 40), "ok 0"),
         (|locks| locks.begin(1, 0, &[], &[10]), "free:1.1 4"),
         (|locks| locks.begin(1, 0, &[], &[11]), "free:1.2 4"),
-        (|locks| locks.begin(2, 0, &[], &[10, 12]), "blocked:2.1 6"),
-        (|locks| locks.begin(2, 0, &[], &[12]), "blocked:2.2 4"),
+        (
+            |locks| locks.begin(2, 0, &[], &[10, 12]),
+            "blocked:2.1@10 6",
+        ),
+        (|locks| locks.begin(2, 0, &[], &[12]), "blocked:2.2@12 4"),
         (|locks| locks.finish(1, 1), "done 0"),
         (|locks| locks.recheck(2, 1), "still 3"),
         (|locks| locks.scan(2), "free:2.1 6"),
@@ -454,9 +457,11 @@ fn answers_are_what_they_say() {
         state: State::Free,
         tenant: 1,
         serial: 2,
+        clash: None,
     };
     assert_eq!(locks.deliver(1, 2), told(Ok(delivered)));
     assert_eq!(delivered.state(), Some(State::Free));
+    assert_eq!(delivered.clash(), None);
     let name = Name {
         tenant: 1,
         serial: 2,
@@ -464,6 +469,7 @@ fn answers_are_what_they_say() {
     assert_eq!(delivered.name(), Some(name));
     assert_eq!(name.to_string(), "1.2");
     assert_eq!((Answer::Still.state(), Answer::Still.name()), (None, None));
+    assert_eq!(Answer::Still.clash(), None);
     assert_eq!(Answer::Still.to_string(), "still");
 }
 

@@ -4,8 +4,8 @@
 //! answers with a [`Reply`].
 //!
 //! "Document 01" is the page of scope and precise rules; the block is that of
-//! Item 1 of the change requests, with Item 2's rule of promotion and Item 4's
-//! reduced lists.
+//! Item 1 of the change requests, with Item 2's rule of promotion, Item 4's
+//! reduced lists and Item 5's report.
 
 mod check;
 mod layout;
@@ -16,8 +16,8 @@ use check::{rises, Map};
 use layout::{
     add, count, entry, find, lists, number_of, queue, records_of, Block, Entry, Meter, AWAITED,
     BLOCKED, COUNT, CS, CX, DUE, ENTRIES, ENTRY_BYTES, FREE, LISTS, MOST_AWAITED, MOST_FUEL,
-    MOST_PLACES, MOST_RECORDS, MOST_SERIALS, NR, NW, SERIAL, SHARES, STATE, TENANT, TENANTS,
-    WAITING,
+    MOST_PLACES, MOST_RECORDS, MOST_SERIALS, NR, NW, RECORDS, SERIAL, SHARES, STATE, TENANT,
+    TENANTS, WAITING,
 };
 
 /// What a call answers and burns, as the linked calls give it back.
@@ -34,7 +34,25 @@ pub struct Reply {
     pub tenant: u8,
     /// Of an entry, and else 0.
     pub serial: u16,
+    /// 1 of a Begin whose entry is Blocked, and else 0.
+    pub clashed: u8,
+    /// The lowest record that such a Begin clashed on, and else 0.
+    pub lowest: u8,
     pub burnt: u32,
+}
+
+/// How many records are held, as the linked call gives it back.
+#[repr(C)]
+#[derive(Clone, Copy, Debug, Default, PartialEq, Eq)]
+pub struct Counts {
+    /// 15 of a block that is not sound, and else 0. The counts are 0 then.
+    pub number: u8,
+    /// Records with Cx above 0.
+    pub written: u16,
+    /// Records with Cs above 0.
+    pub read: u16,
+    /// Records with one of them above 0.
+    pub either: u16,
 }
 
 pub const OK: u8 = 0;
@@ -70,6 +88,15 @@ impl Reply {
             serial: number_of(entry[SERIAL], entry[SERIAL + 1]),
             burnt,
             ..Reply::default()
+        }
+    }
+
+    /// Of a Begin that was admitted.
+    fn begun(entry: &Entry, clash: Option<u8>, burnt: u32) -> Reply {
+        Reply {
+            clashed: u8::from(clash.is_some()),
+            lowest: clash.unwrap_or(0),
+            ..Reply::named(entry, burnt)
         }
     }
 }
@@ -133,7 +160,7 @@ pub fn begin(block: &mut [u8], tenant: u8, awaited: u8, reads: &[u8], writes: &[
             let mut kept = [0; MOST_RECORDS];
             let reads = only_read(&mut kept, reads, writes);
             let price = admissible(block, tenant, *meter, awaited, reads, writes)?;
-            let blocked = clashes(block, reads, writes);
+            let clash = lowest_clash(block, reads, writes);
             meter.fuel -= price;
             meter.serials += 1;
             add(block, CS, reads, 1);
@@ -143,14 +170,14 @@ pub fn begin(block: &mut [u8], tenant: u8, awaited: u8, reads: &[u8], writes: &[
             let entry = entry(block, at);
             entry[TENANT] = tenant;
             entry[SERIAL..][..2].copy_from_slice(&meter.serials.to_be_bytes());
-            entry[STATE] = if blocked { BLOCKED } else { running(awaited) };
+            entry[STATE] = clash.map_or(running(awaited), |_| BLOCKED);
             entry[AWAITED] = awaited;
             entry[DUE] = awaited;
             entry[NR] = reads.len() as u8;
             entry[NW] = writes.len() as u8;
             entry[LISTS..][..reads.len()].copy_from_slice(reads);
             entry[LISTS + reads.len()..][..writes.len()].copy_from_slice(writes);
-            Ok(Reply::named(entry, price))
+            Ok(Reply::begun(entry, clash, price))
         })
     })
 }
@@ -244,6 +271,26 @@ pub fn deliver(block: &mut [u8], tenant: u8, serial: u16) -> Reply {
     })
 }
 
+/// How many records are held, by the counters of a sound block.
+pub fn held(block: &[u8]) -> Counts {
+    let block = match <&Block>::try_from(block) {
+        Ok(block) if check::is_sound(block) => block,
+        _ => {
+            return Counts {
+                number: 15,
+                ..Counts::default()
+            }
+        }
+    };
+    let mut counts = Counts::default();
+    for (cx, cs) in block[CX..][..RECORDS].iter().zip(&block[CS..][..RECORDS]) {
+        counts.written += u16::from(*cx > 0);
+        counts.read += u16::from(*cs > 0);
+        counts.either += u16::from(*cx > 0 || *cs > 0);
+    }
+    counts
+}
+
 /// A call of a tenant with fuel: refusals 1 and 2, then the call, whose refusal
 /// burns 1. The meter that it changes is stored.
 fn charged(
@@ -313,12 +360,14 @@ fn counter(block: &Block, kind: usize, record: u8) -> u8 {
     block[kind + usize::from(record)]
 }
 
-/// The clash of figure 2, by the counters before the request's own.
-fn clashes(block: &Block, reads: &[u8], writes: &[u8]) -> bool {
-    reads.iter().any(|&record| counter(block, CX, record) > 0)
-        || writes
-            .iter()
-            .any(|&record| counter(block, CX, record) > 0 || counter(block, CS, record) > 0)
+/// The lowest record of a clash of figure 2, by the counters before the request's
+/// own. Both lists rise, so that the first of each that clashes is its lowest.
+fn lowest_clash(block: &Block, reads: &[u8], writes: &[u8]) -> Option<u8> {
+    let written = |record| counter(block, CX, record) > 0;
+    let held = |record| written(record) || counter(block, CS, record) > 0;
+    let read = reads.iter().find(|&&record| written(record));
+    let write = writes.iter().find(|&&record| held(record));
+    read.into_iter().chain(write).min().copied()
 }
 
 /// The state of an entry that nothing blocks, by the answers still due. Of a new

@@ -1,7 +1,7 @@
 use super::*;
 use crate::layout::{Block, HEADS, METERS, METER_BYTES};
 use events::random::Random;
-use second::{Answer, Outcome, State, Table};
+use second::{Answer, Held, Outcome, State, Table};
 
 fn state_byte(state: State) -> u8 {
     match state {
@@ -65,14 +65,26 @@ fn reply_of(outcome: Outcome) -> Reply {
             state,
             tenant,
             serial,
+            clash,
         } => Reply {
             kind: NAMED,
             number: 0,
             state: state_byte(state),
             tenant,
             serial,
+            clashed: u8::from(clash.is_some()),
+            lowest: clash.unwrap_or(0),
             burnt,
         },
+    }
+}
+
+fn counts_of(held: Held) -> Counts {
+    Counts {
+        number: 0,
+        written: held.written,
+        read: held.read,
+        either: held.either,
     }
 }
 
@@ -146,6 +158,7 @@ fn every_call_does_what_the_second_program_does() {
         assert_eq!(reply, reply_of(outcome));
         for _ in 0..300 {
             assert_eq!(block, encoded(&table));
+            assert_eq!(held(&block), counts_of(table.held()));
             let (reply, outcome) = call_both(&mut random, &mut block, &mut table);
             assert_eq!(reply, reply_of(outcome));
         }
@@ -180,6 +193,65 @@ fn queued() -> Block {
     begin(&mut block, 2, 1, &[], &[9]);
     deliver(&mut block, 2, 2);
     block
+}
+
+const NOT_SOUND: Counts = Counts {
+    number: 15,
+    written: 0,
+    read: 0,
+    either: 0,
+};
+
+/// The records 1, 2 and 3 of `queued` are read, 3, 4 and 9 written; a Finish of
+/// 1.1 leaves 1 and 3 to others.
+#[test]
+fn held_goes_by_the_last_holder() {
+    let mut block = queued();
+    let counts = |written, read, either| Counts {
+        number: 0,
+        written,
+        read,
+        either,
+    };
+    assert_eq!(held(&block), counts(3, 3, 5));
+    let before = block;
+    assert_eq!(held(&block), counts(3, 3, 5));
+    assert_eq!(block, before);
+    assert_eq!(finish(&mut block, 1, 1).kind, DONE);
+    assert_eq!(held(&block), counts(2, 2, 4));
+    assert_eq!(held(&block[1..]), NOT_SOUND);
+    open(&mut block, &[4; 16]);
+    assert_eq!(held(&block), counts(0, 0, 0));
+}
+
+/// A Begin of tenant 2 behind `queued`, and the record that it is told of.
+#[test]
+fn a_blocked_begin_tells_the_lowest_record() {
+    type Lists = (&'static [u8], &'static [u8]);
+    let cases: [(Lists, Option<u8>); 8] = [
+        ((&[3], &[]), Some(3)),
+        ((&[], &[3]), Some(3)),
+        ((&[], &[2]), Some(2)),
+        ((&[4, 9], &[3]), Some(3)),
+        ((&[3, 4], &[9]), Some(3)),
+        ((&[1, 2, 9], &[0]), Some(9)),
+        ((&[7, 2, 7], &[7]), None),
+        ((&[1, 2], &[255]), None),
+    ];
+    for ((reads, writes), lowest) in cases {
+        let mut block = queued();
+        let reply = begin(&mut block, 2, 0, reads, writes);
+        let told = (reply.clashed, reply.lowest);
+        assert_eq!(told, lowest.map_or((0, 0), |record| (1, record)));
+        assert_eq!(reply.state == BLOCKED, lowest.is_some());
+        assert!(sound(&block));
+    }
+    // A Deliver to a Blocked entry tells none.
+    let mut block = queued();
+    assert_eq!(begin(&mut block, 2, 1, &[3], &[]).clashed, 1);
+    let reply = deliver(&mut block, 2, 3);
+    assert_eq!((reply.kind, reply.state), (NAMED, BLOCKED));
+    assert_eq!((reply.clashed, reply.lowest), (0, 0));
 }
 
 /// The clauses of a sound block, each broken by some bytes: where they stand,
@@ -237,6 +309,7 @@ fn each_clause_of_soundness_is_checked() {
         let before = block;
         assert!(!sound(&block), "{}", clause);
         assert_eq!(finish(&mut block, 0, 0), Reply::refused(15, 0));
+        assert_eq!(held(&block), NOT_SOUND);
         assert_eq!(block, before);
     }
 }

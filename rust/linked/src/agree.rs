@@ -1,10 +1,10 @@
 //! Whether the linked calls and those by hand do the same, over calls from a
 //! seed: the same replies, and the same bytes afterwards.
 
-use crate::calls::{Call, BY_HAND, LINKED};
+use crate::calls::{Call, Said, BY_HAND, LINKED};
 use crate::seeded;
 use events::random::Random;
-use inblock::{Reply, BLOCK_BYTES, REFUSED};
+use inblock::{Counts, BLOCK_BYTES, REFUSED};
 
 const SEQUENCES: usize = 60;
 const CALLS: usize = 250;
@@ -16,6 +16,21 @@ pub struct Tally {
     /// Calls on damaged blocks, and those of them that were refused with 15.
     pub damaged: usize,
     pub refused: usize,
+    /// Begins that were told a record that they clashed on.
+    pub clashed: usize,
+}
+
+impl Tally {
+    fn note(&mut self, said: Said) {
+        match said {
+            Said::Reply(reply) => {
+                self.refused += usize::from(reply.kind == REFUSED && reply.number == 15);
+                self.clashed += usize::from(reply.clashed == 1);
+            }
+            Said::Held(Counts { number: 15, .. }) => self.refused += 1,
+            _ => {}
+        }
+    }
 }
 
 /// The tally, or what differs.
@@ -36,17 +51,17 @@ pub fn agree(seed: u64) -> Result<Tally, String> {
                 let mut damaged = block.clone();
                 seeded::damage(&mut random, &mut damaged);
                 both(&Call::Sound, &mut damaged)?;
+                both(&Call::Held, &mut damaged)?;
                 let call = if random.chance(2) {
                     Call::Open(seeded::shares(&mut random))
                 } else {
                     seeded::call(&mut random, &damaged, top)
                 };
-                let reply = both(&call, &mut damaged)?;
+                tally.note(both(&call, &mut damaged)?);
                 tally.damaged += 1;
-                tally.refused += usize::from(reply.kind == REFUSED && reply.number == 15);
             }
             let call = seeded::call(&mut random, &block, top);
-            both(&call, &mut block)?;
+            tally.note(both(&call, &mut block)?);
             tally.plain += 1;
         }
     }
@@ -54,7 +69,7 @@ pub fn agree(seed: u64) -> Result<Tally, String> {
 }
 
 /// Makes a call on both; they must agree.
-fn both(call: &Call, block: &mut Vec<u8>) -> Result<Reply, String> {
+fn both(call: &Call, block: &mut Vec<u8>) -> Result<Said, String> {
     let before = block.clone();
     let mut other = block.clone();
     let linked = LINKED.make(call, block);

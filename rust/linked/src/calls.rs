@@ -1,7 +1,8 @@
-//! The eight calls and the check, linked and by hand, behind the same types: both
-//! are reached through a C function that the compiler does not look into.
+//! The eight calls, the check and the count of what is held, linked and by hand,
+//! behind the same types: both are reached through a C function that the compiler
+//! does not look into.
 
-use inblock::Reply;
+use inblock::{Counts, Reply};
 use std::slice;
 
 #[path = "../../host/src/declared.rs"]
@@ -21,6 +22,7 @@ pub struct Calls {
     pub pick: unsafe extern "C" fn(*mut u8, usize) -> Reply,
     pub deliver: Named,
     pub sound: unsafe extern "C" fn(*const u8, usize) -> bool,
+    pub held: unsafe extern "C" fn(*const u8, usize) -> Counts,
 }
 
 /// The proved library.
@@ -34,6 +36,7 @@ pub const LINKED: Calls = Calls {
     pick: damsonpouch_pick,
     deliver: damsonpouch_deliver,
     sound: damsonpouch_sound,
+    held: damsonpouch_held,
 };
 
 /// Plain Rust, `rust/inblock`.
@@ -47,6 +50,7 @@ pub const BY_HAND: Calls = Calls {
     pick,
     deliver,
     sound,
+    held,
 };
 
 /// # Safety
@@ -102,6 +106,10 @@ unsafe extern "C" fn sound(block: *const u8, length: usize) -> bool {
     inblock::sound(slice::from_raw_parts(block, length))
 }
 
+unsafe extern "C" fn held(block: *const u8, length: usize) -> Counts {
+    inblock::held(slice::from_raw_parts(block, length))
+}
+
 /// A call with its arguments.
 #[derive(Clone, Debug)]
 pub enum Call {
@@ -114,10 +122,19 @@ pub enum Call {
     Pick,
     Deliver(u8, u16),
     Sound,
+    Held,
 }
 
-pub const NAMES: [&str; 9] = [
-    "open", "grant", "begin", "finish", "recheck", "scan", "pick", "deliver", "sound",
+/// What came of a call.
+#[derive(Clone, Copy, Debug, PartialEq, Eq)]
+pub enum Said {
+    Reply(Reply),
+    Sound(bool),
+    Held(Counts),
+}
+
+pub const NAMES: [&str; 10] = [
+    "open", "grant", "begin", "finish", "recheck", "scan", "pick", "deliver", "sound", "held",
 ];
 
 impl Call {
@@ -133,6 +150,7 @@ impl Call {
             Call::Pick => 6,
             Call::Deliver(..) => 7,
             Call::Sound => 8,
+            Call::Held => 9,
         }
     }
 
@@ -148,6 +166,7 @@ impl Call {
             Call::Pick => calls.pick as usize,
             Call::Deliver(..) => calls.deliver as usize,
             Call::Sound => calls.sound as usize,
+            Call::Held => calls.held as usize,
         }
     }
 
@@ -175,17 +194,17 @@ impl Call {
                 words[..2].copy_from_slice(&[usize::from(*tenant), usize::from(*serial)])
             }
             Call::Scan(tenant) => words[0] = usize::from(*tenant),
-            Call::Pick | Call::Sound => (),
+            Call::Pick | Call::Sound | Call::Held => (),
         }
         words
     }
 }
 
 impl Calls {
-    /// Makes a call. The check answers with its verdict as a kind.
+    /// Makes a call.
     #[inline]
-    pub fn make(&self, call: &Call, block: &mut [u8]) -> Reply {
-        match call {
+    pub fn make(&self, call: &Call, block: &mut [u8]) -> Said {
+        Said::Reply(match call {
             Call::Open(shares) => self.open(block, shares),
             Call::Grant(tenant, amount) => self.grant(block, *tenant, *amount),
             Call::Begin(tenant, awaited, reads, writes) => {
@@ -196,11 +215,9 @@ impl Calls {
             Call::Scan(tenant) => self.scan(block, *tenant),
             Call::Pick => self.pick(block),
             Call::Deliver(tenant, serial) => self.deliver(block, *tenant, *serial),
-            Call::Sound => Reply {
-                kind: u8::from(self.sound(block)),
-                ..Reply::default()
-            },
-        }
+            Call::Sound => return Said::Sound(self.sound(block)),
+            Call::Held => return Said::Held(self.held(block)),
+        })
     }
 
     pub fn open(&self, block: &mut [u8], shares: &[u8]) -> Reply {
@@ -263,5 +280,9 @@ impl Calls {
 
     pub fn sound(&self, block: &[u8]) -> bool {
         unsafe { (self.sound)(block.as_ptr(), block.len()) }
+    }
+
+    pub fn held(&self, block: &[u8]) -> Counts {
+        unsafe { (self.held)(block.as_ptr(), block.len()) }
     }
 }

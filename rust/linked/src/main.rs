@@ -51,8 +51,8 @@ fn all() -> Result<(), String> {
     let tally = agree::agree(SEED)?;
     println!(
         "The linked calls and those by hand gave the same replies and left the same bytes: {} calls on blocks that calls \
-         made, and {} on damaged ones, of which {} were refused with 15.",
-        tally.plain, tally.damaged, tally.refused
+         made, and {} on damaged ones, of which {} were refused with 15; {} were told a record that they clashed on.",
+        tally.plain, tally.damaged, tally.refused, tally.clashed
     );
     println!();
     show_times();
@@ -76,6 +76,7 @@ fn show_times() {
         .map(|&(call, _)| call)
         .chain(on.map(Work::Check))
         .chain(on.map(Work::Refused))
+        .chain(on.map(Work::Held))
         .chain([Work::Open])
         .collect();
     let pairs = measured(&works);

@@ -71,7 +71,7 @@ pub fn call(random: &mut Random, block: &[u8], top: u8) -> Call {
     } else {
         random.byte_between(0, 17)
     };
-    match random.below(20) {
+    match random.below(21) {
         0..=6 => begin(random, tenant, top),
         7..=9 => Call::Finish(tenant, serial),
         10 | 11 => Call::Recheck(tenant, serial),
@@ -79,6 +79,7 @@ pub fn call(random: &mut Random, block: &[u8], top: u8) -> Call {
         14 => Call::Pick,
         15 | 16 => Call::Deliver(tenant, serial),
         17 => Call::Sound,
+        18 => Call::Held,
         _ => {
             let amount = random.one_of(&[0, 1, 5, 40, 400, 3_000, 1_000_000_000, u32::MAX]);
             Call::Grant(tenant, amount)

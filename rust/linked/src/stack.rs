@@ -107,6 +107,7 @@ pub fn worst(calls: &Calls, seed: u64) -> [usize; NAMES.len()] {
             Call::Deliver(1, 1),
             Call::Grant(1, 0),
             Call::Sound,
+            Call::Held,
             Call::Open(vec![4; 16]),
         ] {
             made(&call, &mut work.block(calls));

@@ -24,6 +24,8 @@ pub enum Work {
     /// A Grant to tenant 0: refused once the block is found sound, so that it
     /// does what every call does and nothing else.
     Refused(On),
+    /// The count of the records held, on such a block.
+    Held(On),
     /// An Open: it makes a state and stores it, and looks at nothing of the block.
     Open,
 }
@@ -58,6 +60,7 @@ impl Work {
             Work::Scan => "a scan of 64 entries of 16 records, at 1,089 units".to_string(),
             Work::Check(block) => format!("the check alone, {}", on(block)),
             Work::Refused(block) => format!("a Grant to tenant 0 (refused), {}", on(block)),
+            Work::Held(block) => format!("how many records are held, {}", on(block)),
             Work::Open => "an Open".to_string(),
         }
     }
@@ -78,10 +81,11 @@ impl Work {
                 let mut block = holding(calls, held);
                 let reply = calls.begin(&mut block, 1, 0, &[252, 253], &[3, 254]);
                 assert_eq!((reply.kind, reply.state), (NAMED, BLOCKED));
+                assert_eq!((reply.clashed, reply.lowest), (1, 3));
                 block
             }
             Work::Scan => full(calls),
-            Work::Check(on) | Work::Refused(on) => on.block(calls),
+            Work::Check(on) | Work::Refused(on) | Work::Held(on) => on.block(calls),
             Work::Open => [0; BLOCK_BYTES],
         }
     }
@@ -110,6 +114,7 @@ impl Work {
             }),
             Work::Check(_) => (0..times).for_each(|_| sum += u64::from(calls.sound(block))),
             Work::Refused(_) => (0..times).for_each(|_| note(calls.grant(block, 0, 1))),
+            Work::Held(_) => (0..times).for_each(|_| sum += u64::from(calls.held(block).either)),
             Work::Open => (0..times).for_each(|_| note(calls.open(block, &[4; 16]))),
         }
         sum

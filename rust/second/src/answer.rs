@@ -41,6 +41,10 @@ pub enum Answer {
         state: State,
         tenant: u8,
         serial: u16,
+        /// Item 5: "A Blocked Begin then reports the lowest-numbered record
+        /// that it clashed on". Every other answer has none, that of a Deliver
+        /// to a Blocked entry too.
+        clash: Option<u8>,
     },
     Refused(Refusal),
 }
@@ -56,7 +60,12 @@ impl fmt::Display for Answer {
                 state,
                 tenant,
                 serial,
-            } => write!(out, "{}:{}.{}", state.word(), tenant, serial),
+                clash,
+            } => {
+                write!(out, "{}:{}.{}", state.word(), tenant, serial)?;
+                // "The listing's blocked answer at Begin gains `@` and the record."
+                clash.map_or(Ok(()), |record| write!(out, "@{}", record))
+            }
             Answer::Refused(refusal) => write!(out, "refused:{}", refusal.number()),
         }
     }

@@ -11,7 +11,7 @@ use crate::reader::Event;
 use crate::request::{
     share_a_record, strictly_rising, Entry, Request, State, MOST_AWAITED, MOST_READS, MOST_WRITES,
 };
-use crate::table::{Meter, Table, MOST_FUEL, MOST_PLACES, TENANTS};
+use crate::table::{Held, Meter, Table, MOST_FUEL, MOST_PLACES, TENANTS};
 use std::fmt;
 
 /// "That is 2,176 bytes."
@@ -147,7 +147,7 @@ pub enum Broken {
         found: u8,
         counted: usize,
     },
-    /// The first record of the entry on which the two conflict.
+    /// The lowest record on which the two conflict.
     Conflict {
         at: Place,
         state: State,
@@ -312,6 +312,14 @@ pub fn call(block: &mut [u8], event: Event<'_>) -> Outcome {
     let outcome = apply(&mut table, event);
     block.copy_from_slice(&write(&table));
     outcome
+}
+
+/// Item 5's host call "held" on the block, which is only read, or refusal 15.
+pub fn held(block: &[u8]) -> Result<Held, Refusal> {
+    match read(block) {
+        Ok(table) => Ok(table.held()),
+        Err(_) => Err(Refusal::BlockNotSound),
+    }
 }
 
 /// The state that a call starts from. That of Open does not matter.
@@ -728,7 +736,7 @@ fn running_are_clear(table: &Table) -> Result<(), Broken> {
             continue;
         }
         for (before, ahead) in table.queue[..at].iter().enumerate() {
-            if let Some(record) = clash(&entry.request, &ahead.request) {
+            if let Some(record) = entry.request.lowest_clash(&ahead.request) {
                 return Err(Broken::Conflict {
                     at: place(at, entry),
                     state: entry.state,
@@ -747,16 +755,6 @@ fn place(at: usize, entry: &Entry) -> Place {
         tenant: entry.tenant,
         serial: entry.serial,
     }
-}
-
-/// A record on which two requests conflict.
-fn clash(request: &Request, other: &Request) -> Option<u8> {
-    let read = request.reads.iter();
-    let read = read.filter(|record| other.writes.contains(record));
-    let written = request.writes.iter();
-    let written =
-        written.filter(|record| other.reads.contains(record) || other.writes.contains(record));
-    read.chain(written).next().copied()
 }
 
 /// The block that holds a state, its counters counted over the queue. A state

@@ -18,4 +18,4 @@ pub use answer::{Answer, Outcome, Refusal};
 pub use listing::{apply, listing};
 pub use reader::{Event, FileRefusal, Reader};
 pub use request::{Entry, Request, State};
-pub use table::{Meter, Table};
+pub use table::{Held, Meter, Table};

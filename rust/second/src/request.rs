@@ -59,6 +59,16 @@ impl Request {
             || share_a_record(&self.writes, &other.reads)
             || share_a_record(&self.reads, &other.writes)
     }
+
+    /// The lowest record on which the two conflict.
+    pub fn lowest_clash(&self, other: &Request) -> Option<u8> {
+        let read = self.reads.iter();
+        let read = read.filter(|record| other.writes.contains(record));
+        let written = self.writes.iter();
+        let written =
+            written.filter(|record| other.reads.contains(record) || other.writes.contains(record));
+        read.chain(written).min().copied()
+    }
 }
 
 pub(crate) fn strictly_rising(records: &[u8]) -> bool {

@@ -1,4 +1,4 @@
-//! The state of one partition, and the eight calls on it.
+//! The state of one partition, the eight calls on it, and Item 5's "held".
 
 use crate::answer::{Answer, Outcome, Refusal};
 use crate::price;
@@ -16,6 +16,18 @@ pub struct Meter {
     pub share: u8,
     pub fuel: u32,
     pub serials: u16,
+}
+
+/// How many records the queue has: what Item 5's host call "held" counts "in the
+/// first map, the second, and either". There are no maps here, and no counters.
+#[derive(Clone, Copy, Debug, Default, PartialEq, Eq)]
+pub struct Held {
+    /// Written by some entry: those with Cx above 0.
+    pub written: u16,
+    /// Read by some entry: those with Cs above 0.
+    pub read: u16,
+    /// Written or read by some entry.
+    pub either: u16,
 }
 
 /// The fields are public so that a test can set up what no event file reaches
@@ -79,7 +91,7 @@ impl Table {
         Outcome::burning_nothing(match self.find_due(tenant, serial) {
             Ok(at) => {
                 self.queue[at].take_answer();
-                self.answer_entry(at)
+                self.answer_entry(at, None)
             }
             Err(refusal) => Answer::Refused(refusal),
         })
@@ -93,6 +105,23 @@ impl Table {
             return Err(Refusal::NothingDue);
         }
         Ok(at)
+    }
+
+    /// Item 5's "held", which changes nothing and has no event.
+    pub fn held(&self) -> Held {
+        let has = |list: fn(&Request) -> &Vec<u8>, record: u8| {
+            let mut queue = self.queue.iter();
+            queue.any(|entry| list(&entry.request).contains(&record))
+        };
+        let mut held = Held::default();
+        for record in 0..=u8::MAX {
+            let written = has(|request| &request.writes, record);
+            let read = has(|request| &request.reads, record);
+            held.written += u16::from(written);
+            held.read += u16::from(read);
+            held.either += u16::from(written || read);
+        }
+        held
     }
 }
 
@@ -138,7 +167,10 @@ impl Table {
             .any(|entry| entry.request.conflicts_with(&request));
         self.queue
             .push(Entry::admitted(tenant, serial, request, conflicts));
-        Outcome::burning(burnt, self.answer_entry(self.queue.len() - 1))
+        let at = self.queue.len() - 1;
+        // "judged before its own counts": by the entries ahead of it alone.
+        let clash = self.clash_ahead(at);
+        Outcome::burning(burnt, self.answer_entry(at, clash))
     }
 
     pub fn finish(&mut self, tenant: u8, serial: u16) -> Outcome {
@@ -256,6 +288,17 @@ impl Table {
         Ok(seat)
     }
 
+    /// The lowest record on which the entry at that place conflicts with one
+    /// ahead of it, or nothing if it conflicts with none.
+    pub fn clash_ahead(&self, at: usize) -> Option<u8> {
+        let (ahead, rest) = self.queue.split_at(at);
+        let request = &rest[0].request;
+        let clashes = ahead
+            .iter()
+            .filter_map(|other| request.lowest_clash(&other.request));
+        clashes.min()
+    }
+
     fn conflicts_ahead(&self, at: usize) -> bool {
         let (ahead, rest) = self.queue.split_at(at);
         ahead.iter().any(|other| rest[0].conflicts_with(other))
@@ -270,12 +313,13 @@ impl Table {
         self.conflicts_ahead(at) || self.conflicts_behind(at)
     }
 
-    fn answer_entry(&self, at: usize) -> Answer {
+    fn answer_entry(&self, at: usize, clash: Option<u8>) -> Answer {
         let entry = &self.queue[at];
         Answer::Entry {
             state: entry.state,
             tenant: entry.tenant,
             serial: entry.serial,
+            clash,
         }
     }
 }
@@ -285,7 +329,7 @@ impl Table {
 impl Table {
     fn promote(&mut self, at: usize) -> Answer {
         self.queue[at].promote();
-        self.answer_entry(at)
+        self.answer_entry(at, None)
     }
 
     /// The tenant's next serial, from 1.

@@ -13,8 +13,8 @@ fn after_line_7() -> Table {
     table.grant(2, 40);
     assert_eq!(said(table.begin(1, 0, &[], &[10])), "free:1.1 4");
     assert_eq!(said(table.begin(1, 0, &[], &[11])), "free:1.2 4");
-    assert_eq!(said(table.begin(2, 0, &[], &[10, 12])), "blocked:2.1 6");
-    assert_eq!(said(table.begin(2, 0, &[], &[12])), "blocked:2.2 4");
+    assert_eq!(said(table.begin(2, 0, &[], &[10, 12])), "blocked:2.1@10 6");
+    assert_eq!(said(table.begin(2, 0, &[], &[12])), "blocked:2.2@12 4");
     table
 }
 
@@ -53,7 +53,7 @@ fn e3_two_readers() {
 fn e4_a_reader_then_a_writer() {
     let mut table = with_fuel(100);
     assert_eq!(said(table.begin(1, 0, &[5], &[])), "free:1.1 4");
-    assert_eq!(said(table.begin(1, 0, &[], &[5])), "blocked:1.2 4");
+    assert_eq!(said(table.begin(1, 0, &[], &[5])), "blocked:1.2@5 4");
 }
 
 #[test]

@@ -571,8 +571,8 @@ fn the_documents_listing_on_a_block() {
         (grant(2, 40), "ok 0"),
         (begin(1, &[10]), "free:1.1 4"),
         (begin(1, &[11]), "free:1.2 4"),
-        (begin(2, &[10, 12]), "blocked:2.1 6"),
-        (begin(2, &[12]), "blocked:2.2 4"),
+        (begin(2, &[10, 12]), "blocked:2.1@10 6"),
+        (begin(2, &[12]), "blocked:2.2@12 4"),
         (finish(1, 1), "done 0"),
         (
             Event::Recheck {
@@ -741,7 +741,7 @@ fn a_begin_stores_the_reduced_lists() {
         // 10 is written by 1.1 and 2.1, so that this one is Blocked.
         (
             begin(&[10, 30], &[10]),
-            "blocked:3.1 6",
+            "blocked:3.1@10 6",
             &[
                 (37, &[94]),
                 (121 + 10, &[3]),

@@ -52,8 +52,8 @@ fn which_pairs_conflict() {
 fn a_blocked_entry_ahead_blocks_too() {
     let mut table = roomy();
     assert_eq!(said(table.begin(1, 0, &[], &[1])), "free:1.1 4");
-    assert_eq!(said(table.begin(2, 0, &[], &[1, 2])), "blocked:2.1 6");
-    assert_eq!(said(table.begin(3, 0, &[2], &[])), "blocked:3.1 4");
+    assert_eq!(said(table.begin(2, 0, &[], &[1, 2])), "blocked:2.1@1 6");
+    assert_eq!(said(table.begin(3, 0, &[2], &[])), "blocked:3.1@2 4");
     // 2.1 ahead is Blocked itself: a scan for tenant 3 must not pass it.
     assert_eq!(said(table.scan(3)), "nothing 8");
     assert_eq!(state(&table, 3, 1), State::Blocked);
@@ -63,7 +63,7 @@ fn a_blocked_entry_ahead_blocks_too() {
 fn a_conflict_comes_before_awaited() {
     let mut table = roomy();
     assert_eq!(said(table.begin(1, 1, &[], &[1])), "waiting:1.1 4");
-    assert_eq!(said(table.begin(2, 1, &[1], &[])), "blocked:2.1 4");
+    assert_eq!(said(table.begin(2, 1, &[1], &[])), "blocked:2.1@1 4");
 }
 
 #[test]
@@ -135,7 +135,7 @@ fn answers_do_not_run_a_blocked_entry() {
 fn answered_while_blocked(answers: usize) -> Table {
     let mut table = roomy();
     assert_eq!(said(table.begin(1, 0, &[], &[10])), "free:1.1 4");
-    assert_eq!(said(table.begin(2, 3, &[11], &[10])), "blocked:2.1 6");
+    assert_eq!(said(table.begin(2, 3, &[11], &[10])), "blocked:2.1@10 6");
     for _ in 0..answers {
         assert_eq!(said(table.deliver(2, 1)), "blocked:2.1 0");
     }

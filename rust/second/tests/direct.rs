@@ -74,6 +74,12 @@ impl Sheet {
         self.call(Event::Deliver { tenant, serial });
     }
 
+    /// How many records are held: written, read, and either.
+    fn held(&mut self) {
+        let held = self.table.held();
+        self.text += &format!("held {} {} {}\n", held.written, held.read, held.either);
+    }
+
     /// For each place of the queue, front first, the two verdicts on "nothing
     /// ahead conflicts": the map's and the plain comparison's. This program has
     /// one, a comparison pair by pair, and both must be it.
@@ -105,8 +111,10 @@ fn calls(sheet: &mut Sheet) {
     sheet.begin(2, 0, &[], &[10, 12]);
     sheet.begin(2, 0, &[], &[12]);
     sheet.verdicts();
+    sheet.held();
     sheet.recheck(2, 1);
     sheet.finish(1, 1);
+    sheet.held();
     sheet.scan(2);
     sheet.recheck(2, 2);
     sheet.finish(2, 1);
@@ -262,6 +270,30 @@ fn sales(sheet: &mut Sheet) {
     sheet.finish(2, 4);
 }
 
+fn borders(sheet: &mut Sheet) {
+    sheet.open(&[4, 6, 0, 0, 0, 0, 0, 0, 0, 0, 0, 0, 0, 0, 0, 0]);
+    sheet.grant(1, 200);
+    sheet.grant(2, 200);
+    sheet.held();
+    sheet.begin(1, 0, &[], &[0, 64, 128, 192]);
+    sheet.begin(1, 0, &[63, 127, 191, 255], &[]);
+    sheet.begin(2, 0, &[63, 255], &[]);
+    sheet.begin(2, 0, &[192], &[255]);
+    sheet.begin(2, 0, &[62, 63, 65], &[127, 191]);
+    sheet.begin(2, 2, &[0, 1], &[2, 64]);
+    sheet.held();
+    sheet.deliver(2, 4);
+    sheet.finish(1, 1);
+    sheet.held();
+    sheet.begin(1, 0, &[128], &[192]);
+    sheet.finish(1, 2);
+    sheet.held();
+    sheet.begin(1, 0, &[62], &[63, 126]);
+    sheet.scan(2);
+    sheet.finish(2, 1);
+    sheet.held();
+}
+
 fn stored() -> String {
     let path = concat!(env!("CARGO_MANIFEST_DIR"), "/../../crates/direct/stdout");
     fs::read_to_string(path).expect("the stored listing can be read")
@@ -281,6 +313,7 @@ fn the_proved_program_lists_the_same() {
     numbered(&mut sheet);
     afterwards(&mut sheet);
     sales(&mut sheet);
+    borders(&mut sheet);
     assert_eq!(sheet.text, stored());
 }
 

@@ -93,7 +93,7 @@ fn it_raises_cx_and_not_cs() {
 fn it_is_counted_once_by_the_later_calls() {
     let mut table = with_fuel(100);
     assert_eq!(said(table.begin(1, 0, &[7], &[7])), "free:1.1 4");
-    assert_eq!(said(table.begin(2, 0, &[7, 21], &[7])), "blocked:2.1 6");
+    assert_eq!(said(table.begin(2, 0, &[7, 21], &[7])), "blocked:2.1@7 6");
     // 1 + 2; then 1, and 1 + 1 for 1.1, 1 + 2 for 2.1.
     assert_eq!(said(table.recheck(2, 1)), "still 3");
     assert_eq!(said(table.scan(2)), "nothing 6");
@@ -182,7 +182,7 @@ fn a_promotion_is_not_hindered_by_its_own_lists() {
         table.begin(1, 0, &[], &[7]);
         assert_eq!(
             said(table.begin(2, 1, &[9, 7, 9], &[7, 9])),
-            "blocked:2.1 6"
+            "blocked:2.1@7 6"
         );
         table.finish(1, 1);
         assert_eq!(said(promote(&mut table)), format!("waiting:2.1 {}", burnt));

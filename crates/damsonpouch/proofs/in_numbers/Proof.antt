@@ -1,5 +1,5 @@
 -- Answer by answer.
-use mathlib.Core.Path.{_∙_}
+use mathlib.Core.Path.{refl, _∙_}
 use borrow.Author.Needs.{needs}
 use Rattle.damsonpouch.proofs.in_numbers.Statement.{statement}
 use Rattle.damsonpouch.proofs.in_numbers.Tie as tie
@@ -44,6 +44,9 @@ enum-known-answer-2 c = search needs
 mode-byte-requires : tie.Need-mode-byte-requires
 mode-byte-requires c κs = search needs
 
+enum-known-answer-3 : tie.Need-enum-known-answer-3
+enum-known-answer-3 c = search needs
+
 returns : tie.Need-returns
 returns c = c .unnamed .ensures ∙ rw (c .before .enum-told .given .1)
 
@@ -62,6 +65,9 @@ returns-5 c = rw (c .before .before .answer .given .1) (c .unnamed5 .ensures)
 returns-6 : tie.Need-returns-6
 returns-6 c = rw (c .before .before .answer2 .given .1) (rw (c .mode-byte .ensures))
 
+returns-7 : tie.Need-returns-7
+returns-7 c = rw (c .before .answer3 .given .1) refl
+
 pub in-numbers-spec : {M : Type 1} → statement M
 in-numbers-spec =
     tie.close
@@ -78,9 +84,11 @@ in-numbers-spec =
     unnamed-requires-5
     enum-known-answer-2
     mode-byte-requires
+    enum-known-answer-3
     returns
     returns-2
     returns-3
     returns-4
     returns-5
-    returns-6)
+    returns-6
+    returns-7)

@@ -33,10 +33,10 @@ short c = record {
 }
 
 -- the length of the first three fields, and of all five, with the spaces between
-three : (c : tie.After-with-answer) → c .with-answer .result .len ≤ 36
+three : (c : tie.After-with-answer) → c .with-answer .result .len ≤ 40
 three c = omega (arith, short (c .before .before .before .before .before .before))
 
-five : (c : tie.After-with-left) → c .with-left .result .len ≤ 58
+five : (c : tie.After-with-left) → c .with-left .result .len ≤ 62
 five c =
     let answer = c .before .before .before .before in
     omega (arith, three answer, short (answer .before .before .before .before .before .before))

@@ -6,6 +6,7 @@ use Rattle.listing.proofs.with_answer.Statement.{statement}
 use Rattle.listing.proofs.with_answer.Tie as tie
 use Rattle.listing.proofs.with_answer.Reads as reads
 use Rattle.listing.proofs.with_answer.Lts as lts
+use Rattle.listing.proofs.with_clash.Reads as with-clash-reads
 use Rattle.listing.proofs.with_named.Reads as with-named-reads
 use Rattle.listing.proofs.with_refused.Reads as with-refused-reads
 use Rattle.listing.proofs.with_text.Reads as with-text-reads
@@ -58,6 +59,12 @@ enum-known-answer-2 c = search needs
 with-named-requires : tie.Need-with-named-requires
 with-named-requires c κs = search needs
 
+enum-known-answer-3 : tie.Need-enum-known-answer-3
+enum-known-answer-3 c = search needs
+
+with-clash-requires : tie.Need-with-clash-requires
+with-clash-requires c κs = search needs
+
 returns : tie.Need-returns
 unfolding answerText
 returns c = rw (c .before .before .enum-told .given .1) (c .with-text .ensures, omega arith)
@@ -75,10 +82,13 @@ unfolding answerText
 returns-4 c = rw (c .before .before .enum-told4 .given .1) (c .with-text4 .ensures, omega arith)
 
 returns-5 : tie.Need-returns-5
-returns-5 c = rw (c .before .before .answer .given .1) (c .with-refused .ensures)
+returns-5 c = rw (c .before .before .answer .given .1) (c .with-refused .ensures .0, omega (arith, c .with-refused .ensures .1))
 
 returns-6 : tie.Need-returns-6
-returns-6 c = rw (c .before .before .answer2 .given .1) (c .with-named .ensures)
+returns-6 c = rw (c .before .before .answer2 .given .1) (c .with-named .ensures .0, omega (arith, c .with-named .ensures .1))
+
+returns-7 : tie.Need-returns-7
+returns-7 c = rw (c .before .before .answer3 .given .1) (c .with-clash .ensures)
 
 pub with-answer-spec : {M : Type 1} → statement M
 with-answer-spec =
@@ -100,9 +110,12 @@ with-answer-spec =
     with-refused-requires
     enum-known-answer-2
     with-named-requires
+    enum-known-answer-3
+    with-clash-requires
     returns
     returns-2
     returns-3
     returns-4
     returns-5
-    returns-6)
+    returns-6
+    returns-7)

@@ -1,64 +1,36 @@
--- Before turn i the map has grown by the first i records of the list, and each turn adds the next one.
-use Prim.Native.Nat.{_-_, _≤_, _<_}
-use mathlib.Core.Path.{_≡_}
-use native.Mathlib.Numerals.{add-one}
+-- The first n records are lent.
+use Prim.Native.Nat.{_≤_}
+use mathlib.Core.Path.{_≡_, sym}
 use native.Mathlib.Omega.{arith}
 use lib.ListN.{length, take}
-use lib.Seq.{take-suc}
-use Rattle.maps.specs.Maps.{Grown}
-use Rattle.maps.proofs.Growth.{grown-none, grown-more}
+use lib.Seq.{length-take-le}
 use borrow.Author.Needs.{needs}
 use Rattle.maps.proofs.add.Statement.{statement}
 use Rattle.maps.proofs.add.Tie as tie
 use Rattle.maps.proofs.add.Reads as reads
 use Rattle.maps.proofs.add.Lts as lts
-use Rattle.maps.proofs.put.Reads as put-reads
+use Rattle.maps.proofs.add_each.Reads as add-each-reads
 
-abbrev Inv-loop : tie.InvT-loop
-Inv-loop map₀ n list i₀ map i = (i ≤ n) × Grown map₀ (take i list) map × (length map ≡ 4)
+-- so many there are
+part : (c : tie.Start) → length (take (c .args .n) (c .args .t2)) ≡ c .args .n
+part c =
+    let eight : length (c .args .t2) ≡ 8 = c .good .1 .0 .1 .0 .1 in
+    let room : c .args .n ≤ length (c .args .t2) = omega arith in
+    length-take-le (c .args .n) (c .args .t2) room
 
-abbrev μ-loop : tie.MeasureT-loop
-μ-loop map₀ n list i₀ map i = n - i
+array-share-prefix-list : tie.Need-array-share-prefix-list
+array-share-prefix-list c = search needs
 
-loop-holds : tie.Need-loop-holds Inv-loop μ-loop
-loop-holds c = (search needs, grown-none _, c .pre .1)
+slice-aggregate-add-each : tie.Need-slice-aggregate-add-each
+slice-aggregate-add-each c = sym (part (c .before .before))
 
-array-read-put : tie.Need-array-read-put Inv-loop μ-loop
-array-read-put c = search needs
+add-each-requires : tie.Need-add-each-requires
+add-each-requires c κs = c .before .before .pre .1
 
-put-requires : tie.Need-put-requires Inv-loop μ-loop
-put-requires c κs = c .before .before .loop .inv .2
-
-add-i : tie.Need-add-i Inv-loop μ-loop
-add-i c = search needs
-
-loop-less : tie.Need-loop-less Inv-loop μ-loop
-loop-less c = search needs
-
-loop-again : tie.Need-loop-again Inv-loop μ-loop
-loop-again c =
-    let at = c .before .before .before in
-    let list = at .before .args .t2 in
-    let i = at .loop .i in
-    let eight : length list ≡ 8 = at .before .good .1 .0 .1 .0 .1 in
-    let inside : i < length list = omega arith in
-    (search needs, rw (add-one i, take-suc list i 0 inside) (grown-more (at .loop .inv .1) (c .put .ensures .0)), c .put .ensures .1)
-
-returns : tie.Need-returns Inv-loop μ-loop
-returns c =
-    let all : c .before .loop .i ≡ c .before .before .args .n = omega arith in
-    (rw all at (c .before .loop .inv .1), c .before .loop .inv .2)
+returns : tie.Need-returns
+returns c = c .add-each .ensures
 
 pub add-spec : {M : Type 1} → statement M
 add-spec =
     tie.close
-    (tie.spec
-    Inv-loop
-    μ-loop
-    loop-holds
-    array-read-put
-    put-requires
-    add-i
-    loop-less
-    loop-again
-    returns)
+    (tie.spec array-share-prefix-list slice-aggregate-add-each add-each-requires returns)

@@ -4,7 +4,7 @@
 use events::blocklines::{program, Machine, Said};
 use events::program::ended;
 use events::show::view;
-use second::{block, Event};
+use second::{block, Event, Held};
 use std::process::ExitCode;
 
 fn main() -> ExitCode {
@@ -27,6 +27,10 @@ impl Machine for Second {
             answer: outcome.answer.to_string(),
             burnt: outcome.burnt,
         }
+    }
+
+    fn held(&self) -> Result<Held, u8> {
+        block::held(&self.block).map_err(|refusal| refusal.number())
     }
 
     fn block(&self) -> &[u8] {

@@ -25,14 +25,15 @@ pub fn busy() -> Table {
     for tenant in 1..=4 {
         assert_eq!(table.grant(tenant, 100), burning(0, Answer::Ok));
     }
-    let entry = |state, tenant, serial| Answer::Entry {
+    let entry = |state, tenant, serial, clash| Answer::Entry {
         state,
         tenant,
         serial,
+        clash,
     };
-    let free = entry(State::Free, 1, 1);
-    let waiting = entry(State::Waiting, 1, 2);
-    let blocked = entry(State::Blocked, 2, 1);
+    let free = entry(State::Free, 1, 1, None);
+    let waiting = entry(State::Waiting, 1, 2, None);
+    let blocked = entry(State::Blocked, 2, 1, Some(10));
     assert_eq!(table.begin(1, 0, &[], &[10]), burning(4, free));
     assert_eq!(table.begin(1, 2, &[], &[20]), burning(4, waiting));
     assert_eq!(table.begin(2, 1, &[11], &[10]), burning(6, blocked));

@@ -1,14 +1,10 @@
 -- The first i entries stand in their slots, and the others are unused.
-use Prim.Native.Nat.{ℕ, _+_, _*_, _-_, _≤_, _<_}
-use mathlib.Core.Path.{_≡_, refl}
-use mathlib.Core.List.{List, []}
+use Prim.Native.Nat.{_-_, _≤_, _<_}
+use mathlib.Core.Path.{_≡_}
 use native.Mathlib.Omega.{arith}
-use lib.ListN.{length, take, drop}
-use Rattle.block.specs.Clauses.{countIn, rowAt, queueIn, Clauses}
-use Rattle.block.proofs.Places.{cut-part}
-use Rattle.block.proofs.Each.{each-tab}
-use Rattle.block.proofs.Exact.{sound-clauses}
-use Rattle.block.proofs.Loading.{Slotted, slotted-none, slotted-more, slotted-all, queue-length, queue-at, row-length}
+use lib.ListN.{length}
+use Rattle.block.specs.Clauses.{countIn, queueIn}
+use Rattle.block.proofs.Loading.{Slotted, slotted-none, slotted-more, slotted-all, queue-length, queue-at, sound-room, row-in, row-cut}
 use borrow.Author.Needs.{needs}
 use Rattle.block.proofs.read.entries_from.Statement.{statement}
 use Rattle.block.proofs.read.entries_from.Tie as tie
@@ -23,16 +19,9 @@ Inv-loop b n a₀ i₀ a i = (i ≤ n) × Slotted (queueIn b) i a
 abbrev μ-loop : tie.MeasureT-loop
 μ-loop b n a₀ i₀ a i = n - i
 
-keeps : (c : tie.Start Inv-loop μ-loop) → Clauses (c .args .b .now)
-keeps c = sound-clauses (c .pre .0)
-
 -- the entries in use lie within the block
 room : (c : tie.Start Inv-loop μ-loop) → (length (c .args .b .now) ≡ 2176) × (c .args .n ≤ 64)
-room c = let k = keeps c in (k .as-above .whole, omega (arith, c .pre .1, k .limits .count))
-
--- the code's cut of a row
-cut : (b : List ℕ) (i : ℕ) → take (640 + i * 24 + 24 - (640 + i * 24)) (drop (640 + i * 24) b) ≡ rowAt b i
-cut b i = cut-part b (640 + i * 24) 24 24 refl
+room c = let r = sound-room (c .pre .0) in (r .0, omega (arith, c .pre .1, r .1))
 
 empty-requires : tie.Need-empty-requires Inv-loop μ-loop
 empty-requires c κs = search needs
@@ -64,8 +53,8 @@ entry-from-requires c κs =
     let s = a .before .before .before in
     let i = a .loop .i in
     let b = s .args .b .now in
-    let l = each-tab (rowAt b) (countIn b) [] (keeps s .lists) i (omega (arith, s .pre .1)) in
-    rw (cut b i) (row-length b i (room s .0) (omega (arith, room s .1)), (l .few-reads, l .few-writes))
+    let row = row-in (s .pre .0) i (omega (arith, s .pre .1)) in
+    rw (row-cut b i) (row .size, (row .few-reads, row .few-writes))
 
 mul-a : tie.Need-mul-a Inv-loop μ-loop
 mul-a c = let r = room (c .before .before .before .before .before .before) in omega (arith, r .1)
@@ -86,7 +75,7 @@ loop-again c =
     let b = s .args .b .now in
     let i = a .loop .i in
     let used : i < countIn b = omega (arith, s .pre .1) in
-    let stands = rw (cut b i, ← (queue-at b i used)) at (c .entry-from .ensures) in
+    let stands = rw (row-cut b i, ← (queue-at b i used)) at (c .entry-from .ensures) in
     (search needs, slotted-more (queueIn b) (a .loop .inv .1) (omega (arith, queue-length b)) (omega (arith, room s .1)) stands)
 
 returns : tie.Need-returns Inv-loop μ-loop

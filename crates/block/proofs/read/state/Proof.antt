@@ -12,6 +12,7 @@ use Rattle.block.proofs.read.state.Lts as lts
 use Rattle.block.proofs.read.counters_from.Reads as counters-from-reads
 use Rattle.block.proofs.read.entries_from.Reads as entries-from-reads
 use Rattle.block.proofs.bytes.index.Reads as index-reads
+use Rattle.block.proofs.read.marks_from.Reads as marks-from-reads
 use Rattle.block.proofs.read.meters_from.Reads as meters-from-reads
 
 whole : (c : tie.Start) → length (c .args .b .now) ≡ 2176
@@ -35,12 +36,17 @@ index-requires c κs = search needs
 entries-from-requires : tie.Need-entries-from-requires
 entries-from-requires c κs = (c .before .before .before .before .before .before .pre, c .index .ensures .0)
 
+marks-from-requires : tie.Need-marks-from-requires
+marks-from-requires c κs = let n = c .before in (n .before .before .before .before .before .before .pre, n .index .ensures .0)
+
 returns : tie.Need-returns
 returns c =
-    let m = c .before .before .before in
+    let marks = c .before .before in
+    let e = marks .before in
+    let m = e .before .before .before in
     let y = m .before in
     let x = y .before in
-    loaded (x .before .before .pre) (x .counters-from .ensures) (y .counters-from2 .ensures) (m .meters-from .ensures) (c .entries-from .ensures)
+    loaded (x .before .before .pre) (x .counters-from .ensures) (y .counters-from2 .ensures) (m .meters-from .ensures) (e .entries-from .ensures) (marks .marks-from .ensures)
 
 pub state-spec : {M : Type 1} → statement M
 state-spec =
@@ -52,4 +58,5 @@ state-spec =
     shared-slice-read-index
     index-requires
     entries-from-requires
+    marks-from-requires
     returns)

@@ -1,5 +1,5 @@
 -- The places held are counted as far as the share. What is told from the numbers is the law book's refusal; else the serial is
--- given and the price paid, the counters rise and tell the verdict, and the entry joins the back.
+-- given and the price paid, the maps tell the verdict, the counters and the maps rise, and the entry joins the back.
 use Prim.Native.Nat.{_≤_, _<_, _-_, _+_, _*_}
 use native.Mathlib.Omega.{arith}
 use mathlib.Core.Path.{_≡_, sym, ap, _∙_}
@@ -18,6 +18,7 @@ use Rattle.rules.proofs.Meters.{tenant-range}
 use Rattle.rules.proofs.Prices.{admission-price}
 use Rattle.rules.proofs.Refusals.{stranger}
 use Rattle.meter.specs.View.{meterView}
+use Rattle.maps.specs.Maps.{inMap}
 use Rattle.entry.specs.Entry.{request, withSerial, Stands}
 use Rattle.entry.proofs.Typed.{Lists, entry-lists, few-take}
 use Rattle.queue.proofs.Views.{places-step, places-end}
@@ -27,6 +28,7 @@ use Rattle.manager.proofs.Done.{tenant-refused}
 use Rattle.manager.proofs.Billing.{billing, billed-did}
 use Rattle.manager.proofs.Slots.{Slotted, slotted}
 use Rattle.manager.proofs.Rows.{own-meter, begin-rows}
+use Rattle.manager.proofs.Marking.{rises, by-lists}
 use Rattle.manager.proofs.Joining.{allowed, room, under, begin-did}
 use borrow.Author.Needs.{needs}
 use Rattle.manager.proofs.begin.begin.Statement.{statement}
@@ -36,7 +38,8 @@ use Rattle.manager.proofs.begin.begin.Lts as lts
 use Rattle.counters.proofs.raise.Reads as raise-reads
 use Rattle.entry.proofs.few.Reads as few-reads
 use Rattle.entry.proofs.numbered.Reads as numbered-reads-2
-use Rattle.entry.proofs.named.Reads as named-reads
+use Rattle.maps.proofs.add.Reads as add-reads
+use Rattle.maps.proofs.clash.Reads as clash-reads
 use Rattle.manager.proofs.begin.admitted.Reads as admitted-reads
 use Rattle.manager.proofs.begin.price.Reads as price-reads
 use Rattle.manager.proofs.begin.judge.Reads as judge-reads
@@ -167,12 +170,25 @@ read-list c = few-take _ (c .few .result) (lists (c .before) .reads) (c .few .en
 write-list : (c : tie.After-few2 Inv-loop μ-loop) → let e = made-of c .numbered2 .result in take (c .few2 .result) (e .writes) ≡ request e .writes
 write-list c = few-take _ (c .few2 .result) (lists (made-of c) .writes) (c .few2 .ensures)
 
--- from the raised counters back to the lists' lengths
-abbrev raised-by : tie.After-raise Inv-loop μ-loop → tie.After-few2 Inv-loop μ-loop
-raised-by c = c .before .before .before .before
+-- from the verdict back to the lists' lengths, and from the raised counters to the verdict
+abbrev clashed-by : tie.After-clash Inv-loop μ-loop → tie.After-few2 Inv-loop μ-loop
+clashed-by c = c .before .before .before .before .before .before
 
-abbrev both-raised : tie.After-admitted Inv-loop μ-loop → tie.After-raise2 Inv-loop μ-loop
+abbrev raised-by : tie.After-raise Inv-loop μ-loop → tie.After-clash Inv-loop μ-loop
+raised-by c = c .before .before
+
+-- from the entry that joins back to the maps, from each map to what rose before it, and to where nothing was refused
+abbrev both-added : tie.After-admitted Inv-loop μ-loop → tie.After-add2 Inv-loop μ-loop
+both-added c = c .before
+
+abbrev both-raised : tie.After-add2 Inv-loop μ-loop → tie.After-raise2 Inv-loop μ-loop
 both-raised c = c .before .before .before .before
+
+abbrev judged : tie.After-admitted Inv-loop μ-loop → tie.After-clash Inv-loop μ-loop
+judged c = raised-by (both-raised (both-added c) .before .before)
+
+abbrev joining : tie.After-admitted Inv-loop μ-loop → tie.Else3 Inv-loop μ-loop
+joining c = unrefused (made-of (clashed-by (judged c)))
 
 meter-of-requires : tie.Need-meter-of-requires Inv-loop μ-loop
 meter-of-requires c κs = search needs
@@ -252,52 +268,66 @@ few-requires c κs = search needs
 few-requires-2 : tie.Need-few-requires-2 Inv-loop μ-loop
 few-requires-2 c κs = search needs
 
+clash-requires : tie.Need-clash-requires Inv-loop μ-loop
+clash-requires c κs =
+    let two = c .before .before .before .before .before in
+    (omega (arith, two .before .few .ensures), omega (arith, two .few2 .ensures))
+
 raise-requires : tie.Need-raise-requires Inv-loop μ-loop
 raise-requires c κs =
-    let two = c .before .before .before in
+    let two = clashed-by (c .before) in
     let one = unrefused (made-of two) in
     let s = start one in
     (omega (arith, two .few2 .ensures), (under (s .pre) (slots s) _ _ _ _ (none one) (λ a. a .writes) (s .pre .tied .writers), state-sized (s .args .s) _ (s .good .0) .writers))
 
 raise-requires-2 : tie.Need-raise-requires-2 Inv-loop μ-loop
 raise-requires-2 c κs =
-    let few = raised-by (c .before) .before in
+    let few = clashed-by (raised-by (c .before)) .before in
     let one = unrefused (few .before) in
     let s = start one in
     (omega (arith, few .few .ensures), (under (s .pre) (slots s) _ _ _ _ (none one) (λ a. a .reads) (s .pre .tied .readers), state-sized (s .args .s) _ (s .good .0) .readers))
 
+add-requires : tie.Need-add-requires Inv-loop μ-loop
+add-requires c κs =
+    let two = clashed-by (raised-by (c .before .before .before)) in
+    let s = start (unrefused (made-of two)) in
+    (omega (arith, two .few2 .ensures), state-sized (s .args .s) _ (s .good .0) .written .size)
+
+add-requires-2 : tie.Need-add-requires-2 Inv-loop μ-loop
+add-requires-2 c κs =
+    let few = clashed-by (raised-by (c .before .before .before .before .before)) .before in
+    let s = start (unrefused (few .before)) in
+    (omega (arith, few .few .ensures), state-sized (s .args .s) _ (s .good .0) .read .size)
+
 admitted-requires : tie.Need-admitted-requires Inv-loop μ-loop
-admitted-requires c κs =
-    let up = c .before .before .before in
-    made-of (raised-by (up .before .before)) .numbered2 .ensures .tidy
+admitted-requires c κs = made-of (clashed-by (raised-by (both-raised c .before .before))) .numbered2 .ensures .tidy
 
 mul-joins : tie.Need-mul-joins Inv-loop μ-loop
-mul-joins c = omega (arith, place (unrefused (made-of (raised-by (both-raised c .before .before)))))
+mul-joins c = omega (arith, place (joining (c .before)))
 
 element-set-from-joins : tie.Need-element-set-from-joins Inv-loop μ-loop
-element-set-from-joins c = place (unrefused (made-of (raised-by (both-raised c .before .before))))
+element-set-from-joins c = place (joining (c .before))
 
 add-n : tie.Need-add-n Inv-loop μ-loop
-add-n c = omega (arith, place (unrefused (made-of (raised-by (both-raised c .before .before)))))
-
-named-requires : tie.Need-named-requires Inv-loop μ-loop
-named-requires c κs = search needs
+add-n c = omega (arith, place (joining (c .before)))
 
 returns-2 : tie.Need-returns-2 Inv-loop μ-loop
 returns-2 c =
     let j = c .before in
-    let up = both-raised j in
-    let first = up .before .before in
-    let two = raised-by first in
+    let maps = both-added j in
+    let up = both-raised maps in
+    let told = judged j in
+    let two = clashed-by told in
     let made = made-of two in
     let one = unrefused made in
     let s = start one in
     let paid = made .before in
     let cost = price-is (paid .before) in
     let given = paid .before .before .numbered .ensures ∙ ap numbered (meter-is one) in
-    let x = rw (write-list two) at (first .raise .ensures) in
-    let y = rw (read-list (two .before)) at (up .raise2 .ensures) in
-    begin-did (s .pre) (slots s) _ _ _ _ (none one) (made-is made) (lists made) x y (j .admitted .ensures) cost (paid .charged .ensures ∙ ap (λ (m : LawMeter). spent m (paid .before .price .result)) given) (c .named .ensures)
+    let x = rw (write-list two) at (rises (up .before .before .raise .ensures) (maps .before .before .add .ensures .0)) in
+    let y = rw (read-list (two .before)) at (rises (up .raise2 .ensures) (maps .add2 .ensures .0)) in
+    let low = by-lists (inMap (s .args .s .written)) (inMap (s .args .s .read)) (told .clash .result) (request (made .numbered2 .result)) (read-list (two .before)) (write-list two) (told .clash .ensures) in
+    begin-did (s .pre) (slots s) _ _ _ _ (none one) (told .clash .result) (j .admitted .result) (made-is made) (lists made) x y low (j .admitted .ensures) cost (paid .charged .ensures ∙ ap (λ (m : LawMeter). spent m (paid .before .price .result)) given)
 
 pub begin-spec : {M : Type 1} → statement M
 begin-spec =
@@ -327,11 +357,13 @@ begin-spec =
     numbered-requires-2
     few-requires
     few-requires-2
+    clash-requires
     raise-requires
     raise-requires-2
+    add-requires
+    add-requires-2
     admitted-requires
     mul-joins
     element-set-from-joins
     add-n
-    named-requires
     returns-2)

@@ -74,7 +74,7 @@ refused c =
     let s = begun (c .before .before) in
     rw (← (number-is (c .before))) (host-refused (view (s .args .s)) _ _ _ (c .if1 .left) (s .pre .table) (still-becomes (s .pre .tied) _) refl refl)
 
-done : (c : tie.After-granted) → let s = begun (c .before .before .before) .args in Did (record { cx = s .s .cx; cs = s .s .cs; meters = set (s .s .meters) (s .who - 1) (c .granted .result); count = s .s .count; entries = s .s .entries; said = record { answer = Ok; burnt = 0 } }) (grantOf (view (s .s)) (s .who) (s .amount))
+done : (c : tie.After-granted) → let s = begun (c .before .before .before) .args in Did (record { cx = s .s .cx; cs = s .s .cs; written = s .s .written; read = s .s .read; meters = set (s .s .meters) (s .who - 1) (c .granted .result); count = s .s .count; entries = s .s .entries; said = record { answer = Ok; burnt = 0 } }) (grantOf (view (s .s)) (s .who) (s .amount))
 unfolding grantOf
 done c =
     let one = c .before in
