@@ -24,8 +24,8 @@ use Rattle.rules.specs.Sound.{SoundTable}
 use Rattle.meter.specs.View.{meterView}
 use Rattle.manager.specs.declared.State.{State}
 use Rattle.counters.specs.Counters.{Counts}
+use Rattle.counters.proofs.Marks.{marks-from}
 use Rattle.manager.specs.State.{queueOf, view}
-use Rattle.manager.proofs.Marking.{marks-from}
 use Rattle.block.specs.Block.{tab, blockOf, SoundBlock}
 use Rattle.block.specs.Clauses.{part, requestIn, metersIn, countIn, rowAt, rowsIn, queueIn, tableIn}
 use Rattle.block.specs.Read.{Holds, MapsOf}

@@ -22,7 +22,7 @@ raise-at zero (suc k) (y ∷ c) h = simp (eqb·zero-suc) (omega arith)
 raise-at (suc x) zero (y ∷ c) h = simp (eqb·suc-zero) (omega arith)
 raise-at (suc x) (suc k) (y ∷ c) h = simp (eqb·suc-suc) (raise-at x k c (le-of-suc-le-suc h))
 
-lower-at : (x k : ℕ) (c : List ℕ) → 0 < at c x → at (set c x (at c x - 1)) k + one (eqb x k) ≡ at c k
+pub lower-at : (x k : ℕ) (c : List ℕ) → 0 < at c x → at (set c x (at c x - 1)) k + one (eqb x k) ≡ at c k
 lower-at x k [] h = absurd (not-suc-le-zero h)
 lower-at zero zero (y ∷ c) h = omega arith
 lower-at zero (suc k) (y ∷ c) h = simp (eqb·zero-suc) (omega arith)

@@ -8,11 +8,11 @@ ghost use Rattle.rules.specs.Lists.{some, every};
 ghost use Rattle.rules.specs.Request.{requested};
 ghost use Rattle.rules.specs.Counters.{figure2, alone as aloneBy};
 ghost use Rattle.entry.specs.Entry.{request};
-ghost use Rattle.counters.specs.Counters.{at, Raised, Under, Stocked};
+ghost use Rattle.counters.specs.Counters.{at, Raised, Under, Stocked, Marks};
 use entry::Entry;
 
 // A record as an index.
-pub fn wide(x: u8) -> usize
+fn wide(x: u8) -> usize
     ensures { λ r. ⌜ (r ≡ x) × (r < 256) ⌝ }
 {
     x as usize
@@ -45,16 +45,24 @@ pub fn raise(counters: &mut [u8; 256], list: [u8; 8], n: usize)
     raise_each(counters, &list[..n]);
 }
 
-// Takes one at each of the first n records of a list, at each of which there is one to take.
-pub fn lower(counters: &mut [u8; 256], list: [u8; 8], n: usize)
+// Takes one at each of the first n records of a list, at each of which there is one to take. A record whose counter comes to 0
+// leaves the map of those above 0.
+pub fn lower<'a>(counters: &'a mut [u8; 256], map: &'a mut [u64; 4], list: [u8; 8], n: usize)
     requires { ⌜ n ≤ 8 ⌝ }
     requires { ⌜ Stocked (now counters) (take n list) ⌝ }
+    requires { ⌜ Marks (now map) (now counters) ⌝ }
+    requires { ⌜ length (now map) ≡ 4 ⌝ }
     ensures { λ _. ⌜ Raised (now (counters .exit)) (take n list) (now (counters .entry)) ⌝ }
+    ensures { λ _. ⌜ Marks (now (map .exit)) (now (counters .exit)) ⌝ }
 {
     let mut i: usize = 0;
     while i < n {
-        let k = wide(list[i]);
+        let r = list[i];
+        let k = wide(r);
         counters[k] -= 1;
+        if counters[k] == 0 {
+            maps::remove(map, r);
+        }
         i += 1;
     }
 }

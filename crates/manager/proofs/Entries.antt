@@ -15,14 +15,13 @@ use Rattle.meter.specs.View.{meterView}
 use Rattle.entry.specs.declared.Entry.{Entry}
 use Rattle.entry.specs.Entry.{blank, request, Stands}
 use Rattle.entry.proofs.Typed.{Lists, few-take}
-use Rattle.counters.specs.Counters.{Stocked, Counts}
+use Rattle.counters.specs.Counters.{Raised, Stocked, Counts, Marks}
 use Rattle.counters.proofs.Laws.{counts-raised, counts-stocked, counts-lowered}
 use Rattle.queue.specs.Queue.{Queue, Holds}
 use Rattle.queue.proofs.Views.{requests-length, request-at, replaced-holds}
 use Rattle.manager.specs.declared.Said.{Said}
 use Rattle.manager.specs.declared.State.{State}
-use Rattle.manager.specs.State.{view, Marks, Tied, Becomes}
-use Rattle.manager.proofs.Marking.{Rises, Falls, marks-raised, marks-lowered}
+use Rattle.manager.specs.State.{view, Tied, Becomes}
 use Rattle.manager.proofs.Slots.{Slotted}
 
 -- the same records read and written
@@ -61,13 +60,13 @@ queue-becomes {x} {y} {v} {w} {q} {l} {said} ms h c = record {
 
 module _ {s : State} (t : Tied s) where
   -- an entry joins the back
-  pub joins-becomes : {x y v w : List ℕ} {q : Queue} {said : Said} (ms : List Meter) (e : Request) → Stored (e .reads) (e .writes) → Rises (s .cx) (s .written) (e .writes) x v → Rises (s .cs) (s .read) (e .reads) y w → Holds (view s .queue ++ e ∷ []) q → Becomes (record { meters = map meterView ms; queue = view s .queue ++ e ∷ [] }) (record { cx = x; cs = y; written = v; read = w; meters = ms; count = q .count; entries = q .entries; said = said })
-  joins-becomes ms e f x y h =
+  pub joins-becomes : {x y v w : List ℕ} {q : Queue} {said : Said} (ms : List Meter) (e : Request) → Stored (e .reads) (e .writes) → Raised (s .cx) (e .writes) x → Raised (s .cs) (e .reads) y → Marks v x → Marks w y → Holds (view s .queue ++ e ∷ []) q → Becomes (record { meters = map meterView ms; queue = view s .queue ++ e ∷ [] }) (record { cx = x; cs = y; written = v; read = w; meters = ms; count = q .count; entries = q .entries; said = said })
+  joins-becomes ms e f x y written read h =
       queue-becomes ms h (record {
-        writers = counts-raised (λ a. a .writes) e (f .writes-rise) (t .writers) (x .counters);
-        readers = counts-raised (λ a. a .reads) e (f .reads-rise) (t .readers) (y .counters);
-        written = marks-raised (t .written) (x .map) (x .counters);
-        read = marks-raised (t .read) (y .map) (y .counters);
+        writers = counts-raised (λ a. a .writes) e (f .writes-rise) (t .writers) x;
+        readers = counts-raised (λ a. a .reads) e (f .reads-rise) (t .readers) y;
+        written = written;
+        read = read;
       })
 
   module _ (i : ℕ) (there : i < length (view s .queue)) where
@@ -79,13 +78,13 @@ module _ {s : State} (t : Tied s) where
       pub reads-stocked : Stocked (s .cs) (getD (view s .queue) i nobody .reads)
       reads-stocked = counts-stocked (λ a. a .reads) i there (f .reads-rise) (t .readers)
 
-      pub leaves-becomes : {x y v w : List ℕ} {q : Queue} {said : Said} → Falls (s .cx) (s .written) (getD (view s .queue) i nobody .writes) x v → Falls (s .cs) (s .read) (getD (view s .queue) i nobody .reads) y w → Holds (withoutEntry i (view s .queue)) q → Becomes (withQueue (view s) (withoutEntry i (view s .queue))) (record { cx = x; cs = y; written = v; read = w; meters = s .meters; count = q .count; entries = q .entries; said = said })
-      leaves-becomes x y h =
+      pub leaves-becomes : {x y v w : List ℕ} {q : Queue} {said : Said} → Raised x (getD (view s .queue) i nobody .writes) (s .cx) → Raised y (getD (view s .queue) i nobody .reads) (s .cs) → Marks v x → Marks w y → Holds (withoutEntry i (view s .queue)) q → Becomes (withQueue (view s) (withoutEntry i (view s .queue))) (record { cx = x; cs = y; written = v; read = w; meters = s .meters; count = q .count; entries = q .entries; said = said })
+      leaves-becomes x y written read h =
           queue-becomes (s .meters) h (record {
-            writers = counts-lowered (λ a. a .writes) i there (f .writes-rise) (t .writers) (x .counters);
-            readers = counts-lowered (λ a. a .reads) i there (f .reads-rise) (t .readers) (y .counters);
-            written = marks-lowered (t .written) (x .counters) (x .map);
-            read = marks-lowered (t .read) (y .counters) (y .map);
+            writers = counts-lowered (λ a. a .writes) i there (f .writes-rise) (t .writers) x;
+            readers = counts-lowered (λ a. a .reads) i there (f .reads-rise) (t .readers) y;
+            written = written;
+            read = read;
           })
 
     -- an entry is changed, its lists the same

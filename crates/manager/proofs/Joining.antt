@@ -28,8 +28,9 @@ use Rattle.maps.specs.Maps.{inMap, IsLowest}
 use Rattle.entry.specs.declared.Entry.{Entry}
 use Rattle.entry.specs.Entry.{request, Stands}
 use Rattle.entry.proofs.Typed.{Lists}
-use Rattle.counters.specs.Counters.{Under, Counts}
+use Rattle.counters.specs.Counters.{Raised, Under, Counts, Marks}
 use Rattle.counters.proofs.Laws.{counts-under}
+use Rattle.counters.proofs.Marks.{marks-tell}
 use Rattle.queue.proofs.Views.{requests-length, pushed-holds}
 use Rattle.meter.specs.declared.Meter.{Meter}
 use Rattle.meter.specs.View.{meterView}
@@ -39,7 +40,7 @@ use Rattle.manager.specs.State.{view, Sound, Did}
 use Rattle.manager.specs.Deeds.{AdmittedBy}
 use Rattle.manager.proofs.Done.{tenant-done}
 use Rattle.manager.proofs.Slots.{Slotted}
-use Rattle.manager.proofs.Marking.{Rises, marks-tell, joining-told}
+use Rattle.manager.proofs.Marking.{joining-told}
 use Rattle.manager.proofs.Entries.{joins-becomes}
 
 -- ---- the entry that joins
@@ -90,7 +91,7 @@ module _ {s : State} (h : Sound s) (k : Slotted s) (who awaited : ℕ) (reads wr
       let few : length (view s .queue) < 65 = omega (arith, sound-count (h .table)) in
       counts-under of 65 few n
 
-  module _ {e : Entry} {x y v w : List ℕ} (low : Low) (j : Joining) (is : request e ≡ wanted) (l : Lists e) (up : Rises (s .cx) (s .written) (request e .writes) x v) (up' : Rises (s .cs) (s .read) (request e .reads) y w) (found : IsLowest (clashAt (inMap (s .written)) (inMap (s .read)) (request e)) low) (by : AdmittedBy low (request e) j) where
+  module _ {e : Entry} {x y v w : List ℕ} (low : Low) (j : Joining) (is : request e ≡ wanted) (l : Lists e) (up : Raised (s .cx) (request e .writes) x) (up' : Raised (s .cs) (request e .reads) y) (written : Marks v x) (read : Marks w y) (found : IsLowest (clashAt (inMap (s .written)) (inMap (s .read)) (request e)) low) (by : AdmittedBy low (request e) j) where
     small : Names (λ n. n ≤ 255) wanted
     small = subst (Names (λ n. n ≤ 255)) is (records-small e l)
 
@@ -110,12 +111,12 @@ module _ {s : State} (h : Sound s) (k : Slotted s) (who awaited : ℕ) (reads wr
         let reads-are : a .reads ≡ wanted .reads = ap (λ (b : Request). b .reads) same in
         let writes-are : a .writes ≡ writes = ap (λ (b : Request). b .writes) same in
         let formed : Stored (a .reads) (a .writes) = rw (reads-are, writes-are) lists in
-        let cx-rises : Rises (s .cx) (s .written) (a .writes) x v = rw writes-are (rw (ap (λ (b : Request). b .writes) is) at up) in
-        let cs-rises : Rises (s .cs) (s .read) (a .reads) y w = rw reads-are (rw (ap (λ (b : Request). b .reads) is) at up') in
+        let cx-raised : Raised (s .cx) (a .writes) x = rw writes-are (rw (ap (λ (b : Request). b .writes) is) at up) in
+        let cs-raised : Raised (s .cs) (a .reads) y = rw reads-are (rw (ap (λ (b : Request). b .reads) is) at up') in
         let holds = rw (own .0 .is) at (pushed-holds (k .slots) (j .entry) room (own .0 .tidy)) in
         let meters = joined-meters s (h .table .sixteen) a who (ap (λ (b : Request). b .tenant) same) (allowed .tenant) (admission clause9 wanted) paid (pays ∙ ap (spent _) price) in
         tenant-done t who _ (admission clause9 wanted) (joined t a) (begun (t .queue) wanted) none
         (sound-burn (begin-sound clause9 (h .table) _ _ _ _ small allowed) who (admission clause9 wanted) (allowed .tenant))
-        (rw meters (joins-becomes (h .tied) _ a formed cx-rises cs-rises holds))
+        (rw meters (joins-becomes (h .tied) _ a formed cx-raised cs-raised written read holds))
         (own .1)
         price

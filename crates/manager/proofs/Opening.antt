@@ -11,12 +11,12 @@ use Rattle.meter.specs.declared.Meter.{Meter}
 use Rattle.meter.specs.View.{meterView}
 use Rattle.maps.specs.Maps.{Empty}
 use Rattle.counters.proofs.Laws.{counts-none}
+use Rattle.counters.proofs.Marks.{marks-none}
 use Rattle.entry.specs.declared.Entry.{Entry}
 use Rattle.entry.specs.Entry.{noEntry}
 use Rattle.queue.proofs.Views.{none-holds}
 use Rattle.manager.specs.declared.Said.{Said}
 use Rattle.manager.specs.State.{Becomes}
-use Rattle.manager.proofs.Marking.{marks-none}
 use Rattle.manager.proofs.Entries.{queue-becomes}
 
 -- the first i meters are new ones of the first i shares

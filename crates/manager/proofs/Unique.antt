@@ -13,13 +13,13 @@ use Rattle.meter.specs.declared.Meter.{Meter}
 use Rattle.meter.specs.View.{meterView}
 use Rattle.entry.specs.declared.Entry.{Entry}
 use Rattle.entry.specs.Entry.{request, noEntry, blank, Tidy}
-use Rattle.counters.specs.Counters.{Counts}
+use Rattle.counters.specs.Counters.{Counts, Marks}
+use Rattle.counters.proofs.Marks.{marks-unique}
 use Rattle.queue.specs.Queue.{Queue, requests}
 use Rattle.queue.proofs.Views.{requests-length}
 use Rattle.manager.specs.declared.State.{State}
-use Rattle.manager.specs.State.{queueOf, view, Marks}
+use Rattle.manager.specs.State.{queueOf, view}
 use Rattle.manager.specs.Tight.{SoundValue, ViewTells, Allowed, OneResult}
-use Rattle.manager.proofs.Marking.{marks-unique}
 
 -- ---- the meters, read back from the table's
 abbrev meterBack : LawMeter → Meter

@@ -1,22 +1,17 @@
--- The deeds of calls: paying for a refusal, joining, leaving, and what leaves the maps then.
+-- The deeds of calls: paying for a refusal, joining and leaving.
 use Prim.Native.Nat.{ℕ, _-_}
 use mathlib.Core.Path.{_≡_}
-use mathlib.Core.Bool.{_&&_, not}
 use mathlib.Core.List.{List, map}
-use lib.Dec.{eqb}
 use lib.ListN.{getD, set}
 use Rattle.rules.specs.declared.Answer.the-variants.{Done, Refused, BlockedOn}
 use Rattle.rules.specs.Lists.{if_then_else_}
-use Rattle.rules.specs.Records.{member}
 use Rattle.rules.specs.Request.{Request, promoted}
 use Rattle.rules.specs.Table.{Table, isTenant, withQueue, meterOf, spent, burn}
 use Rattle.rules.specs.Prices.{clause9, pricesOf, charge}
 use Rattle.rules.specs.Calls.{Outcome, withoutEntry, named}
 use Rattle.maps.specs.declared.Low.{Low}
 use Rattle.maps.specs.declared.Low.the-variants.{At, Nothing}
-use Rattle.maps.specs.Maps.{inMap}
 use Rattle.entry.specs.Entry.{Stands}
-use Rattle.counters.specs.Counters.{at}
 use Rattle.meter.specs.declared.Meter.{Meter}
 use Rattle.meter.specs.View.{meterView, noMeter}
 use Rattle.manager.specs.declared.begin.Joining.{Joining}
@@ -54,7 +49,3 @@ pub record Gone (s : State) (at : ℕ) (r : State) : Type 0 where
 abbrev pub AdmittedBy : Low → Request → Joining → Type 0
 AdmittedBy (At r) e j = Stands e (j .entry) × (j .answer ≡ BlockedOn (e .tenant) (e .serial) r)
 AdmittedBy Nothing e j = Stands (promoted e) (j .entry) × (j .answer ≡ named (promoted e))
-
--- the records of the list with a counter of 0 have left the map
-pub record Cleared (counters list map next : List ℕ) : Type 0 where
-  pub each : (k : ℕ) → inMap next k ≡ (inMap map k && not (member k list && eqb (at counters k) 0))

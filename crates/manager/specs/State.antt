@@ -1,14 +1,11 @@
 -- The state as the law book's table, and what a sound state is.
-use Prim.Native.Nat.{ℕ, _<_}
 use mathlib.Core.Path.{_≡_}
-use mathlib.Core.List.{List, map}
-use lib.Dec.{ltb}
+use mathlib.Core.List.{map}
 use Rattle.rules.specs.Table.{Table}
 use Rattle.rules.specs.Calls.{Outcome}
 use Rattle.rules.specs.Sound.{SoundTable}
 use Rattle.meter.specs.View.{meterView}
-use Rattle.maps.specs.Maps.{inMap}
-use Rattle.counters.specs.Counters.{at, Counts}
+use Rattle.counters.specs.Counters.{Counts, Marks}
 use Rattle.queue.specs.Queue.{Queue, requests, Neat}
 use Rattle.manager.specs.declared.State.{State}
 
@@ -17,10 +14,6 @@ queueOf s = record { count = s .count; entries = s .entries }
 
 abbrev pub view : State → Table
 view s = record { meters = map meterView (s .meters); queue = requests (queueOf s) }
-
--- document 02, item 5: "maps of 256 bits, of records with Cx above 0 and with Cs above 0"
-pub record Marks (map counters : List ℕ) : Type 0 where
-  pub each : (k : ℕ) → k < 256 → inMap map k ≡ ltb 0 (at counters k)
 
 -- the arrays say what the queue's list says: "Cx and Cs are the queue's", "unused entries are zero"
 pub record Tied (s : State) : Type 0 where

@@ -166,11 +166,12 @@ pub fn begin(s: State, who: u8, awaited: u8, reads: &[u8], writes: &[u8]) -> Sta
     let nw = entry::few(e.nw);
     let read = e.reads;
     let written = e.writes;
-    let low = maps::clash(&n.written, &n.read, read, nr, written, nw);
+    let clash = maps::clash(&n.written, &n.read, read, nr, written, nw);
     counters::raise(&mut n.cx, written, nw);
     counters::raise(&mut n.cs, read, nr);
-    maps::add(&mut n.written, written, nw);
-    maps::add(&mut n.read, read, nr);
+    maps::join(&mut n.written, &clash.writes);
+    maps::join(&mut n.read, &clash.reads);
+    let low = clash.low;
     let joining = admitted(low, e);
     let joins = joining.entry;
     let answer = joining.answer;

@@ -12,7 +12,8 @@ pub fn held(s: State) -> Tally
 {
     let written = s.written;
     let read = s.read;
-    let both = maps::union(written, read);
+    let mut both = s.written;
+    maps::join(&mut both, &read);
     let w = maps::ones(written);
     let r = maps::ones(read);
     let e = maps::ones(both);

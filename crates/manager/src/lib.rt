@@ -9,7 +9,6 @@ pub mod deliver;
 pub mod finish;
 pub mod grant;
 pub mod held;
-mod marks;
 mod meters;
 pub mod open;
 pub mod pick;

@@ -8,15 +8,15 @@ use Rattle.rules.specs.Request.{requested}
 use Rattle.rules.specs.Clash.{clashAt}
 use Rattle.maps.specs.declared.Low.{Low}
 use Rattle.maps.specs.declared.Low.the-variants.{At, Nothing}
-use Rattle.maps.specs.Maps.{inMap, clashIn, Empty, Grown, IsLowest}
+use Rattle.maps.specs.Maps.{inMap, MapOf, clashIn, Empty, Grown, IsLowest}
 
 -- a map that was empty and has grown by a list is the list
-own-map : {map list next : List ℕ} → Empty map → Grown map list next → (q : ℕ) → inMap next q ≡ member q list
-own-map {map} {list} {next} e g q = g .each q ∙ ap (λ (t : Bool). t || member q list) (e .each q)
+pub own-map : {map list next : List ℕ} → Empty map → Grown map list next → MapOf list next
+own-map {map} {list} {next} e g = record { each = λ q. g .each q ∙ ap (λ (t : Bool). t || member q list) (e .each q) }
 
-pub own-clash : {a b reads writes own own' : List ℕ} (written read : List ℕ) → Empty a → Grown a reads own → Empty b → Grown b writes own' → (q : ℕ) → clashIn own own' written read q ≡ clashAt (inMap written) (inMap read) (requested 0 0 0 reads writes) q
+pub own-clash : {reads writes own own' : List ℕ} (written read : List ℕ) → MapOf reads own → MapOf writes own' → (q : ℕ) → clashIn own own' written read q ≡ clashAt (inMap written) (inMap read) (requested 0 0 0 reads writes) q
 unfolding clashAt
-own-clash written read e g e' g' q = rw (own-map e g q, own-map e' g' q)
+own-clash written read m m' q = rw (m .each q, m' .each q)
 
 -- tests that agree have the same lowest record
 pub lowest-same : (f g : ℕ → Bool) → ((q : ℕ) → f q ≡ g q) → (low : Low) → IsLowest f low → IsLowest g low

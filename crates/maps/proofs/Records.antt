@@ -6,7 +6,7 @@ use mathlib.Core.Bool.{Bool, true, false}
 use mathlib.Core.List.{List, [], _∷_}
 use native.Mathlib.Omega.{arith}
 use lib.Dec.{ltb}
-use lib.ListN.{length, getD}
+use lib.ListN.{length, getD, set}
 use lib.Seq.{ext-getD}
 use lib.Bits.{bitOr}
 use borrow.Author.Tests.{ltb-true, ltb-false}
@@ -86,11 +86,27 @@ or-word a b (suc (suc zero)) lt = refl
 or-word a b (suc (suc (suc zero))) lt = refl
 or-word a b (suc (suc (suc (suc i)))) lt = absurd (omega arith)
 
-pub union-words : (a b : List ℕ) → Union a b (orWords a b)
+union-words : (a b : List ℕ) → Union a b (orWords a b)
 unfolding inMap
 union-words a b = record {
   each = λ q (lt : q < 256). ap (λ (w : ℕ). bitSet w (q % 64)) (or-word a b (q / 64) (omega arith)) ∙ or-bit (getD a (q / 64) 0) (getD b (q / 64) 0) (q % 64);
 }
+
+-- as the code stores them, one behind the other
+abbrev joined : List ℕ → List ℕ → List ℕ
+joined a b =
+    let first = set a 0 (bitOr (getD a 0 0) (getD b 0 0)) in
+    let second = set first 1 (bitOr (getD first 1 0) (getD b 1 0)) in
+    let third = set second 2 (bitOr (getD second 2 0) (getD b 2 0)) in
+    set third 3 (bitOr (getD third 3 0) (getD b 3 0))
+
+pub joined-union : (a b : List ℕ) → length a ≡ 4 → Union a b (joined a b)
+joined-union [] b four = absurd (omega arith)
+joined-union (w ∷ []) b four = absurd (omega arith)
+joined-union (w ∷ x ∷ []) b four = absurd (omega arith)
+joined-union (w ∷ x ∷ y ∷ []) b four = absurd (omega arith)
+joined-union (w ∷ x ∷ y ∷ z ∷ []) b four = union-words (w ∷ x ∷ y ∷ z ∷ []) b
+joined-union (w ∷ x ∷ y ∷ z ∷ v ∷ more) b four = absurd (omega arith)
 
 -- ---- a map is its records
 pub map-told : {a b : List ℕ} → Words a → Words b → ((q : ℕ) → q < 256 → inMap a q ≡ inMap b q) → a ≡ b

@@ -6,9 +6,11 @@ use mathlib.Core.List.{List}
 use lib.Dec.{eqb}
 use lib.ListN.{length, getD}
 use Rattle.rules.specs.Records.{member}
-use Rattle.rules.specs.Clash.{howMany}
+use Rattle.rules.specs.Request.{requested}
+use Rattle.rules.specs.Clash.{clashAt, howMany}
 use Rattle.maps.specs.declared.Low.{Low}
 use Rattle.maps.specs.declared.Low.the-variants.{At, Nothing}
+use Rattle.maps.specs.declared.Clashed.{Clashed}
 
 -- bit k of a word is set
 abbrev pub bitSet : ℕ → ℕ → Bool
@@ -22,6 +24,10 @@ inMap map r = bitSet (getD map (r / 64) 0) (r % 64)
 pub record Words (map : List ℕ) : Type 0 where
   pub size : length map ≡ 4
   pub below : (k : ℕ) → getD map k 0 < 2 ^ 64
+
+-- the records of the map are those of the list
+pub record MapOf (list map : List ℕ) : Type 0 where
+  pub each : (q : ℕ) → inMap map q ≡ member q list
 
 -- no record is in the map
 pub record Empty (map : List ℕ) : Type 0 where
@@ -67,3 +73,10 @@ pub record BitsCounted (word n : ℕ) : Type 0 where
 abbrev pub IsLowest : (ℕ → Bool) → Low → Type 0
 IsLowest test (At r) = (r < 256) × (test r ≡ true) × ((q : ℕ) → q < r → test q ≡ false)
 IsLowest test Nothing = (q : ℕ) → q < 256 → test q ≡ false
+
+-- c has the lowest record on which a request with these lists clashes, by the maps of the records that others write and read, and
+-- the maps of its lists
+pub record Clashes (written read reads writes : List ℕ) (c : Clashed) : Type 0 where
+  pub low : IsLowest (clashAt (inMap written) (inMap read) (requested 0 0 0 reads writes)) (c .low)
+  pub own-reads : MapOf reads (c .reads)
+  pub own-writes : MapOf writes (c .writes)

@@ -4,9 +4,8 @@ ghost use mathlib.Core.Path.{_≡_};
 ghost use mathlib.Core.List.{[], _∷_};
 ghost use lib.ListN.{length, take};
 ghost use Rattle.rules.specs.Lists.{some};
-ghost use Rattle.rules.specs.Request.{requested};
-ghost use Rattle.rules.specs.Clash.{clashAt, howMany};
-ghost use Rattle.maps.specs.Maps.{inMap, clashIn, Empty, Grown, Without, Union, ClashBits, LowestBit, BitsCounted, IsLowest};
+ghost use Rattle.rules.specs.Clash.{howMany};
+ghost use Rattle.maps.specs.Maps.{inMap, clashIn, Empty, Grown, Without, Union, ClashBits, LowestBit, BitsCounted, IsLowest, Clashes};
 
 // The lowest record that passes a test, or that none does.
 pub enum Low {
@@ -125,6 +124,13 @@ fn lowest<'a>(
     Low::Nothing
 }
 
+// The lowest record on which a request clashes, and its own maps: of what it reads and of what it writes.
+pub struct Clashed {
+    pub low: Low,
+    pub reads: [u64; 4],
+    pub writes: [u64; 4],
+}
+
 // The lowest record on which a request with these lists clashes, by the maps of the records that others write and read.
 pub fn clash<'a>(
     written: &'a [u64; 4],
@@ -133,16 +139,21 @@ pub fn clash<'a>(
     nr: usize,
     writes: [u8; 8],
     nw: usize,
-) -> Low
+) -> Clashed
     requires { ⌜ nr ≤ 8 ⌝ }
     requires { ⌜ nw ≤ 8 ⌝ }
-    ensures { λ l. ⌜ IsLowest (clashAt (inMap (now (written .entry))) (inMap (now (read .entry))) (requested 0 0 0 (take nr reads) (take nw writes))) l ⌝ }
+    ensures { λ r. ⌜ Clashes (now (written .entry)) (now (read .entry)) (take nr reads) (take nw writes) r ⌝ }
 {
     let mut own_reads = none();
     let mut own_writes = none();
     add(&mut own_reads, reads, nr);
     add(&mut own_writes, writes, nw);
-    lowest(&own_reads, &own_writes, written, read)
+    let low = lowest(&own_reads, &own_writes, written, read);
+    Clashed {
+        low: low,
+        reads: own_reads,
+        writes: own_writes,
+    }
 }
 
 // How many bits of a word are set.
@@ -159,9 +170,13 @@ pub fn ones(map: [u64; 4]) -> u16
     (bits(map[0]) + bits(map[1]) + bits(map[2]) + bits(map[3])) as u16
 }
 
-// The records of two maps.
-pub fn union(a: [u64; 4], b: [u64; 4]) -> [u64; 4]
-    ensures { λ m. ⌜ Union a b m ⌝ }
+// Adds the records of another map.
+pub fn join<'a>(map: &'a mut [u64; 4], other: &'a [u64; 4])
+    requires { ⌜ length (now map) ≡ 4 ⌝ }
+    ensures { λ _. ⌜ Union (now (map .entry)) (now (other .entry)) (now (map .exit)) ⌝ }
 {
-    [a[0] | b[0], a[1] | b[1], a[2] | b[2], a[3] | b[3]]
+    map[0] |= other[0];
+    map[1] |= other[1];
+    map[2] |= other[2];
+    map[3] |= other[3];
 }

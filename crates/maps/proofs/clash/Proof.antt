@@ -1,5 +1,5 @@
 -- The request's own maps are its lists, and the lowest clash by them is returned.
-use Rattle.maps.proofs.OwnMaps.{own-clash, lowest-same}
+use Rattle.maps.proofs.OwnMaps.{own-map, own-clash, lowest-same}
 use borrow.Author.Needs.{needs}
 use Rattle.maps.proofs.clash.Statement.{statement}
 use Rattle.maps.proofs.clash.Tie as tie
@@ -30,7 +30,9 @@ returns c =
     let first = second .before .before in
     let writes = first .before .before in
     let s = writes .before .before .args in
-    lowest-same _ _ (own-clash (s .written .now) (s .read .now) (writes .before .none .ensures) (first .add .ensures .0) (writes .none2 .ensures) (second .add2 .ensures .0)) (c .lowest .result) (c .lowest .ensures)
+    let own = own-map (writes .before .none .ensures) (first .add .ensures .0) in
+    let own' = own-map (writes .none2 .ensures) (second .add2 .ensures .0) in
+    record { low = lowest-same _ _ (own-clash (s .written .now) (s .read .now) own own') (c .lowest .result) (c .lowest .ensures); own-reads = own; own-writes = own' }
 
 pub clash-spec : {M : Type 1} → statement M
 clash-spec =

@@ -21,6 +21,7 @@ use Rattle.meter.specs.View.{meterView}
 use Rattle.maps.specs.Maps.{inMap}
 use Rattle.entry.specs.Entry.{request, withSerial, Stands}
 use Rattle.entry.proofs.Typed.{Lists, entry-lists, few-take}
+use Rattle.counters.proofs.Marks.{marks-raised}
 use Rattle.queue.proofs.Views.{places-step, places-end}
 use Rattle.manager.specs.State.{view, Did}
 use Rattle.manager.proofs.Typed.{state-sized}
@@ -28,7 +29,7 @@ use Rattle.manager.proofs.Done.{tenant-refused}
 use Rattle.manager.proofs.Billing.{billing, billed-did}
 use Rattle.manager.proofs.Slots.{Slotted, slotted}
 use Rattle.manager.proofs.Rows.{own-meter, begin-rows}
-use Rattle.manager.proofs.Marking.{rises, by-lists}
+use Rattle.manager.proofs.Marking.{by-lists}
 use Rattle.manager.proofs.Joining.{allowed, room, under, begin-did}
 use borrow.Author.Needs.{needs}
 use Rattle.manager.proofs.begin.begin.Statement.{statement}
@@ -38,8 +39,8 @@ use Rattle.manager.proofs.begin.begin.Lts as lts
 use Rattle.counters.proofs.raise.Reads as raise-reads
 use Rattle.entry.proofs.few.Reads as few-reads
 use Rattle.entry.proofs.numbered.Reads as numbered-reads-2
-use Rattle.maps.proofs.add.Reads as add-reads
 use Rattle.maps.proofs.clash.Reads as clash-reads
+use Rattle.maps.proofs.join.Reads as join-reads
 use Rattle.manager.proofs.begin.admitted.Reads as admitted-reads
 use Rattle.manager.proofs.begin.price.Reads as price-reads
 use Rattle.manager.proofs.begin.judge.Reads as judge-reads
@@ -178,14 +179,14 @@ abbrev raised-by : tie.After-raise Inv-loop μ-loop → tie.After-clash Inv-loop
 raised-by c = c .before .before
 
 -- from the entry that joins back to the maps, from each map to what rose before it, and to where nothing was refused
-abbrev both-added : tie.After-admitted Inv-loop μ-loop → tie.After-add2 Inv-loop μ-loop
-both-added c = c .before
+abbrev first-joined : tie.After-join2 Inv-loop μ-loop → tie.After-join Inv-loop μ-loop
+first-joined c = c .before .before .before .before
 
-abbrev both-raised : tie.After-add2 Inv-loop μ-loop → tie.After-raise2 Inv-loop μ-loop
+abbrev both-raised : tie.After-join Inv-loop μ-loop → tie.After-raise2 Inv-loop μ-loop
 both-raised c = c .before .before .before .before
 
 abbrev judged : tie.After-admitted Inv-loop μ-loop → tie.After-clash Inv-loop μ-loop
-judged c = raised-by (both-raised (both-added c) .before .before)
+judged c = raised-by (both-raised (first-joined (c .before)) .before .before)
 
 abbrev joining : tie.After-admitted Inv-loop μ-loop → tie.Else3 Inv-loop μ-loop
 joining c = unrefused (made-of (clashed-by (judged c)))
@@ -287,20 +288,18 @@ raise-requires-2 c κs =
     let s = start one in
     (omega (arith, few .few .ensures), (under (s .pre) (slots s) _ _ _ _ (none one) (λ a. a .reads) (s .pre .tied .readers), state-sized (s .args .s) _ (s .good .0) .readers))
 
-add-requires : tie.Need-add-requires Inv-loop μ-loop
-add-requires c κs =
-    let two = clashed-by (raised-by (c .before .before .before)) in
-    let s = start (unrefused (made-of two)) in
-    (omega (arith, two .few2 .ensures), state-sized (s .args .s) _ (s .good .0) .written .size)
+join-requires : tie.Need-join-requires Inv-loop μ-loop
+join-requires c κs =
+    let s = start (unrefused (made-of (clashed-by (raised-by (c .before .before .before .before .before))))) in
+    state-sized (s .args .s) _ (s .good .0) .written .size
 
-add-requires-2 : tie.Need-add-requires-2 Inv-loop μ-loop
-add-requires-2 c κs =
-    let few = clashed-by (raised-by (c .before .before .before .before .before)) .before in
-    let s = start (unrefused (few .before)) in
-    (omega (arith, few .few .ensures), state-sized (s .args .s) _ (s .good .0) .read .size)
+join-requires-2 : tie.Need-join-requires-2 Inv-loop μ-loop
+join-requires-2 c κs =
+    let s = start (unrefused (made-of (clashed-by (raised-by (both-raised (c .before .before .before) .before .before))))) in
+    state-sized (s .args .s) _ (s .good .0) .read .size
 
 admitted-requires : tie.Need-admitted-requires Inv-loop μ-loop
-admitted-requires c κs = made-of (clashed-by (raised-by (both-raised c .before .before))) .numbered2 .ensures .tidy
+admitted-requires c κs = made-of (clashed-by (raised-by (both-raised (first-joined c) .before .before))) .numbered2 .ensures .tidy
 
 mul-joins : tie.Need-mul-joins Inv-loop μ-loop
 mul-joins c = omega (arith, place (joining (c .before)))
@@ -314,8 +313,9 @@ add-n c = omega (arith, place (joining (c .before)))
 returns-2 : tie.Need-returns-2 Inv-loop μ-loop
 returns-2 c =
     let j = c .before in
-    let maps = both-added j in
-    let up = both-raised maps in
+    let second = j .before in
+    let first = first-joined second in
+    let up = both-raised first in
     let told = judged j in
     let two = clashed-by told in
     let made = made-of two in
@@ -324,10 +324,14 @@ returns-2 c =
     let paid = made .before in
     let cost = price-is (paid .before) in
     let given = paid .before .before .numbered .ensures ∙ ap numbered (meter-is one) in
-    let x = rw (write-list two) at (rises (up .before .before .raise .ensures) (maps .before .before .add .ensures .0)) in
-    let y = rw (read-list (two .before)) at (rises (up .raise2 .ensures) (maps .add2 .ensures .0)) in
-    let low = by-lists (inMap (s .args .s .written)) (inMap (s .args .s .read)) (told .clash .result) (request (made .numbered2 .result)) (read-list (two .before)) (write-list two) (told .clash .ensures) in
-    begin-did (s .pre) (slots s) _ _ _ _ (none one) (told .clash .result) (j .admitted .result) (made-is made) (lists made) x y low (j .admitted .ensures) cost (paid .charged .ensures ∙ ap (λ (m : LawMeter). spent m (paid .before .price .result)) given)
+    let clash = told .clash .ensures in
+    let raise = up .before .before in
+    let x = rw (write-list two) at (raise .raise .ensures) in
+    let y = rw (read-list (two .before)) at (up .raise2 .ensures) in
+    let written = marks-raised (s .pre .tied .written) (clash .own-writes) (first .join .ensures) (raise .raise .ensures) in
+    let read = marks-raised (s .pre .tied .read) (clash .own-reads) (second .join2 .ensures) (up .raise2 .ensures) in
+    let low = by-lists (inMap (s .args .s .written)) (inMap (s .args .s .read)) (told .clash .result .low) (request (made .numbered2 .result)) (read-list (two .before)) (write-list two) (clash .low) in
+    begin-did (s .pre) (slots s) _ _ _ _ (none one) (told .clash .result .low) (j .admitted .result) (made-is made) (lists made) x y written read low (j .admitted .ensures) cost (paid .charged .ensures ∙ ap (λ (m : LawMeter). spent m (paid .before .price .result)) given)
 
 pub begin-spec : {M : Type 1} → statement M
 begin-spec =
@@ -360,8 +364,8 @@ begin-spec =
     clash-requires
     raise-requires
     raise-requires-2
-    add-requires
-    add-requires-2
+    join-requires
+    join-requires-2
     admitted-requires
     mul-joins
     element-set-from-joins

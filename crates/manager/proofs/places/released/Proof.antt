@@ -14,7 +14,6 @@ use Rattle.manager.proofs.Entries.{reads-are, writes-are, writes-stocke
 use Rattle.manager.specs.State.{view}
 use Rattle.manager.specs.Tight.{Sized}
 use Rattle.manager.proofs.Typed.{state-sized}
-use Rattle.manager.proofs.Marking.{falls}
 use Rattle.manager.proofs.Slots.{Slotted, slotted, used, below, own, own-lists, Framed, frame-more}
 use Rattle.manager.proofs.places.released.Statement.{statement}
 use Rattle.manager.proofs.places.released.Tie as tie
@@ -23,7 +22,6 @@ use Rattle.manager.proofs.places.released.Lts as lts
 use Rattle.entry.proofs.empty.Reads as empty-reads
 use Rattle.entry.proofs.few.Reads as few-reads
 use Rattle.counters.proofs.lower.Reads as lower-reads
-use Rattle.manager.proofs.marks.fall.Reads as fall-reads
 
 abbrev Inv-loop : tie.InvT-loop
 Inv-loop at n₀ nr nw last j₀ n j = (at ≤ j) × (j ≤ last) × Shifted at j (n₀ .entries) (n .entries) × Framed n₀ n
@@ -54,20 +52,13 @@ write-list c =
 
 -- from the lowered counters back to the lists' lengths, and to the start
 abbrev lowered-by : tie.After-lower Inv-loop μ-loop → tie.After-few2 Inv-loop μ-loop
-lowered-by c = c .before .before .before .before
+lowered-by c = c .before .before .before .before .before .before .before
 
-abbrev lowered : tie.After-lower2 Inv-loop μ-loop → tie.Start Inv-loop μ-loop
-lowered c = lowered-by (c .before .before) .before .before .before
+abbrev first-lowered : tie.After-lower2 Inv-loop μ-loop → tie.After-lower Inv-loop μ-loop
+first-lowered c = c .before .before .before
 
--- from the second map back to the first, from there to the lowered counters, and to the start
-abbrev first-fallen : tie.After-fall2 Inv-loop μ-loop → tie.After-fall Inv-loop μ-loop
-first-fallen c = c .before .before .before .before
-
-abbrev fallen-by : tie.After-fall Inv-loop μ-loop → tie.After-lower2 Inv-loop μ-loop
-fallen-by c = c .before .before .before .before .before .before
-
-abbrev begun : tie.After-fall2 Inv-loop μ-loop → tie.Start Inv-loop μ-loop
-begun c = lowered (fallen-by (first-fallen c))
+abbrev begun : tie.After-lower2 Inv-loop μ-loop → tie.Start Inv-loop μ-loop
+begun c = lowered-by (first-lowered c) .before .before .before
 
 sized : (c : tie.Start Inv-loop μ-loop) → Sized (c .args .s)
 sized c = state-sized (c .args .s) _ (c .good .0)
@@ -86,25 +77,15 @@ few-requires-2 c κs = search needs
 
 lower-requires : tie.Need-lower-requires Inv-loop μ-loop
 lower-requires c κs =
-    let two = c .before .before .before in
+    let two = c .before .before .before .before .before .before in
     let one = two .before .before .before in
-    (omega (arith, two .few2 .ensures), rw (write-list two) (writes-stocked (one .pre .0) (one .args .at) (there one) (formed one)))
+    (omega (arith, two .few2 .ensures), (rw (write-list two) (writes-stocked (one .pre .0) (one .args .at) (there one) (formed one)), (one .pre .0 .written, sized one .written .size)))
 
 lower-requires-2 : tie.Need-lower-requires-2 Inv-loop μ-loop
 lower-requires-2 c κs =
-    let few = lowered-by (c .before) .before in
+    let few = lowered-by (c .before .before) .before in
     let one = few .before .before in
-    (omega (arith, few .few .ensures), rw (read-list few) (reads-stocked (one .pre .0) (one .args .at) (there one) (formed one)))
-
-fall-requires : tie.Need-fall-requires Inv-loop μ-loop
-fall-requires c κs =
-    let low = c .before .before .before .before .before in
-    (omega (arith, lowered-by (low .before .before) .few2 .ensures), sized (lowered low) .written .size)
-
-fall-requires-2 : tie.Need-fall-requires-2 Inv-loop μ-loop
-fall-requires-2 c κs =
-    let low = fallen-by (c .before .before .before) in
-    (omega (arith, lowered-by (low .before .before) .before .few .ensures), sized (lowered low) .read .size)
+    (omega (arith, few .few .ensures), (rw (read-list few) (reads-stocked (one .pre .0) (one .args .at) (there one) (formed one)), (one .pre .0 .read, sized one .read .size)))
 
 sub-last : tie.Need-sub-last Inv-loop μ-loop
 sub-last c = let one = begun c in omega (arith, used (slots one) (there one))
@@ -152,17 +133,17 @@ element-set-from-unused c = omega (arith, begun (c .before .before .before) .pre
 returns : tie.Need-returns Inv-loop μ-loop
 returns c =
     let a = c .before .before in
-    let out = a .before in
-    let low = fallen-by (first-fallen out) in
-    let s = begun out in
+    let low = a .before in
+    let first = first-lowered low in
+    let few = lowered-by first in
+    let s = begun low in
     let end : a .loop .j ≡ s .args .s .count - 1 = omega arith in
     let more : s .args .s .count - 1 + 1 ≡ s .args .s .count = omega (arith, used (slots s) (there s)) in
-    let few = lowered-by (low .before .before) in
-    let x = rw (write-list few) at (falls (low .before .before .lower .ensures) (first-fallen out .fall .ensures .0)) in
-    let y = rw (read-list (few .before)) at (falls (low .lower2 .ensures) (out .fall2 .ensures .0)) in
+    let x = rw (write-list few) at (first .lower .ensures .0) in
+    let y = rw (read-list (few .before)) at (low .lower2 .ensures .0) in
     let q = removed-holds (slots s .slots) (rw end at (a .loop .inv .2)) (omega arith) more in
     record {
-      state = rw (a .loop .inv .3 .same, c .empty .ensures) (leaves-becomes (s .pre .0) (s .args .at) (there s) (formed s) x y q);
+      state = rw (a .loop .inv .3 .same, c .empty .ensures) (leaves-becomes (s .pre .0) (s .args .at) (there s) (formed s) x y (first .lower .ensures .1) (low .lower2 .ensures .1) q);
       answer = refl;
       burnt = refl;
     }
@@ -179,8 +160,6 @@ released-spec =
     few-requires-2
     lower-requires
     lower-requires-2
-    fall-requires
-    fall-requires-2
     sub-last
     loop-holds
     add-f
