@@ -7,6 +7,7 @@ ghost use lib.ListN.{length, take};
 ghost use Rattle.rules.specs.Lists.{some, every};
 ghost use Rattle.rules.specs.Request.{requested};
 ghost use Rattle.rules.specs.Counters.{figure2, alone as aloneBy};
+ghost use Rattle.maps.specs.Maps.{Grown};
 ghost use Rattle.entry.specs.Entry.{request};
 ghost use Rattle.counters.specs.Counters.{at, Raised, Under, Stocked, Marks};
 use entry::Entry;
@@ -35,14 +36,23 @@ pub fn raise_each(counters: &mut [u8; 256], list: &[u8])
     }
 }
 
-// Adds one at each of the first n records of a list.
-pub fn raise(counters: &mut [u8; 256], list: [u8; 8], n: usize)
+// Adds one at each of the first n records of a list, and these records to a map.
+pub fn raise<'a>(counters: &'a mut [u8; 256], map: &'a mut [u64; 4], list: [u8; 8], n: usize)
     requires { ⌜ n ≤ 8 ⌝ }
     requires { ⌜ Under 65 (now counters) ⌝ }
     requires { ⌜ length (now counters) ≡ 256 ⌝ }
+    requires { ⌜ length (now map) ≡ 4 ⌝ }
     ensures { λ _. ⌜ Raised (now (counters .entry)) (take n list) (now (counters .exit)) ⌝ }
+    ensures { λ _. ⌜ Grown (now (map .entry)) (take n list) (now (map .exit)) ⌝ }
 {
-    raise_each(counters, &list[..n]);
+    let mut i: usize = 0;
+    while i < n {
+        let r = list[i];
+        let at = wide(r);
+        counters[at] += 1;
+        maps::put(map, r);
+        i += 1;
+    }
 }
 
 // Takes one at each of the first n records of a list, at each of which there is one to take. A record whose counter comes to 0

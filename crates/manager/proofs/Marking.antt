@@ -8,7 +8,7 @@ use native.Mathlib.Omega.{arith}
 use lib.Dec.{ltb}
 use Rattle.rules.specs.declared.Mode.the-variants.{Blocked}
 use Rattle.rules.specs.declared.Answer.the-variants.{BlockedOn}
-use Rattle.rules.specs.Request.{Request, requested, conflictsAny, admitted}
+use Rattle.rules.specs.Request.{Request, conflictsAny, admitted}
 use Rattle.rules.specs.Counters.{cx, cs}
 use Rattle.rules.specs.Calls.{begun}
 use Rattle.rules.specs.declared.Tally.{Tally}
@@ -18,9 +18,9 @@ use Rattle.rules.proofs.Tests.{lt-or-ge}
 use Rattle.rules.proofs.Clashing.{clash-by, clash-named, lowest-reported, lowest-one, conflict-told, joins-blocked, joins-clear}
 use Rattle.maps.specs.declared.Low.{Low}
 use Rattle.maps.specs.declared.Low.the-variants.{At, Nothing}
-use Rattle.maps.specs.Maps.{inMap, Union, IsLowest}
+use Rattle.maps.specs.Maps.{inMap, MapOf, Union, clashIn, IsLowest}
 use Rattle.maps.proofs.Records.{count-same}
-use Rattle.maps.proofs.OwnMaps.{lowest-same}
+use Rattle.maps.proofs.OwnMaps.{own-clash, lowest-same}
 use Rattle.entry.specs.declared.Entry.{Entry}
 use Rattle.entry.specs.Entry.{request, Stands}
 use Rattle.entry.proofs.Typed.{Lists, bytes-small}
@@ -30,13 +30,13 @@ use Rattle.manager.specs.State.{view, Tied}
 use Rattle.manager.specs.Deeds.{AdmittedBy}
 
 -- ---- the request that joins
--- the clash of the lists that the code takes from an entry is that of its request
-pub by-lists : (written read : ℕ → Bool) (low : Low) (e : Request) {reads writes : List ℕ} → reads ≡ e .reads → writes ≡ e .writes → IsLowest (clashAt written read (requested 0 0 0 reads writes)) low → IsLowest (clashAt written read e) low
+-- the clash by a request's own maps, made from the lists that the code takes from an entry, is that of its request
+pub by-lists : (written read : List ℕ) (low : Low) (e : Request) {reads writes own own' : List ℕ} → reads ≡ e .reads → writes ≡ e .writes → MapOf reads own → MapOf writes own' → IsLowest (clashIn own own' written read) low → IsLowest (clashAt (inMap written) (inMap read) e) low
 unfolding clashAt
-by-lists written read low e {reads} {writes} r w = lowest-same _ _ same low
+by-lists written read low e {reads} {writes} {own} {own'} r w m m' = lowest-same _ _ same low
   where
-    same : (q : ℕ) → clashAt written read (requested 0 0 0 reads writes) q ≡ clashAt written read e q
-    same q = rw (r, w)
+    same : (q : ℕ) → clashIn own own' written read q ≡ clashAt (inMap written) (inMap read) e q
+    same q = own-clash written read m m' q ∙ rw (r, w)
 
 module _ (q : List Request) (written read : ℕ → Bool) (w : (k : ℕ) → k < 256 → written k ≡ writtenIn q k) (r : (k : ℕ) → k < 256 → read k ≡ readIn q k) (e : Entry) (l : Lists e) where
   abbrev test : ℕ → Bool

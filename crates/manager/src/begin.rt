@@ -166,12 +166,14 @@ pub fn begin(s: State, who: u8, awaited: u8, reads: &[u8], writes: &[u8]) -> Sta
     let nw = entry::few(e.nw);
     let read = e.reads;
     let written = e.writes;
-    let clash = maps::clash(&n.written, &n.read, read, nr, written, nw);
-    counters::raise(&mut n.cx, written, nw);
-    counters::raise(&mut n.cs, read, nr);
-    maps::join(&mut n.written, &clash.writes);
-    maps::join(&mut n.read, &clash.reads);
-    let low = clash.low;
+    let mut own_reads = maps::none();
+    let mut own_writes = maps::none();
+    counters::raise(&mut n.cx, &mut own_writes, written, nw);
+    counters::raise(&mut n.cs, &mut own_reads, read, nr);
+    // judged before its own counts: the state's maps are still those of the entries ahead
+    let low = maps::lowest(&own_reads, &own_writes, &n.written, &n.read);
+    maps::join(&mut n.written, &own_writes);
+    maps::join(&mut n.read, &own_reads);
     let joining = admitted(low, e);
     let joins = joining.entry;
     let answer = joining.answer;

@@ -6,11 +6,9 @@ use mathlib.Core.List.{List}
 use lib.Dec.{eqb}
 use lib.ListN.{length, getD}
 use Rattle.rules.specs.Records.{member}
-use Rattle.rules.specs.Request.{requested}
-use Rattle.rules.specs.Clash.{clashAt, howMany}
+use Rattle.rules.specs.Clash.{howMany}
 use Rattle.maps.specs.declared.Low.{Low}
 use Rattle.maps.specs.declared.Low.the-variants.{At, Nothing}
-use Rattle.maps.specs.declared.Clashed.{Clashed}
 
 -- bit k of a word is set
 abbrev pub bitSet : ℕ → ℕ → Bool
@@ -73,10 +71,3 @@ pub record BitsCounted (word n : ℕ) : Type 0 where
 abbrev pub IsLowest : (ℕ → Bool) → Low → Type 0
 IsLowest test (At r) = (r < 256) × (test r ≡ true) × ((q : ℕ) → q < r → test q ≡ false)
 IsLowest test Nothing = (q : ℕ) → q < 256 → test q ≡ false
-
--- c has the lowest record on which a request with these lists clashes, by the maps of the records that others write and read, and
--- the maps of its lists
-pub record Clashes (written read reads writes : List ℕ) (c : Clashed) : Type 0 where
-  pub low : IsLowest (clashAt (inMap written) (inMap read) (requested 0 0 0 reads writes)) (c .low)
-  pub own-reads : MapOf reads (c .reads)
-  pub own-writes : MapOf writes (c .writes)

@@ -5,7 +5,7 @@ ghost use mathlib.Core.List.{[], _∷_};
 ghost use lib.ListN.{length, take};
 ghost use Rattle.rules.specs.Lists.{some};
 ghost use Rattle.rules.specs.Clash.{howMany};
-ghost use Rattle.maps.specs.Maps.{inMap, clashIn, Empty, Grown, Without, Union, ClashBits, LowestBit, BitsCounted, IsLowest, Clashes};
+ghost use Rattle.maps.specs.Maps.{inMap, clashIn, Empty, Grown, Without, Union, ClashBits, LowestBit, BitsCounted, IsLowest};
 
 // The lowest record that passes a test, or that none does.
 pub enum Low {
@@ -28,7 +28,7 @@ fn has(map: &[u64; 4], r: u8) -> bool
 }
 
 // Adds record r to the map. What is lent does not tell its length, so the contracts of what adds to it do.
-fn put(map: &mut [u64; 4], r: u8)
+pub fn put(map: &mut [u64; 4], r: u8)
     requires { ⌜ length (now map) ≡ 4 ⌝ }
     ensures { λ _. ⌜ Grown (now (map .entry)) (r ∷ []) (now (map .exit)) ⌝ }
     ensures { λ _. ⌜ length (now (map .exit)) ≡ 4 ⌝ }
@@ -104,7 +104,7 @@ fn low_bit(w: u64) -> u8
 
 // The lowest record on which a request clashes, by its own maps and those of the others: trailing zeros of the first word that
 // is not 0.
-fn lowest<'a>(
+pub fn lowest<'a>(
     reads: &'a [u64; 4],
     writes: &'a [u64; 4],
     written: &'a [u64; 4],
@@ -122,38 +122,6 @@ fn lowest<'a>(
         i += 1;
     }
     Low::Nothing
-}
-
-// The lowest record on which a request clashes, and its own maps: of what it reads and of what it writes.
-pub struct Clashed {
-    pub low: Low,
-    pub reads: [u64; 4],
-    pub writes: [u64; 4],
-}
-
-// The lowest record on which a request with these lists clashes, by the maps of the records that others write and read.
-pub fn clash<'a>(
-    written: &'a [u64; 4],
-    read: &'a [u64; 4],
-    reads: [u8; 8],
-    nr: usize,
-    writes: [u8; 8],
-    nw: usize,
-) -> Clashed
-    requires { ⌜ nr ≤ 8 ⌝ }
-    requires { ⌜ nw ≤ 8 ⌝ }
-    ensures { λ r. ⌜ Clashes (now (written .entry)) (now (read .entry)) (take nr reads) (take nw writes) r ⌝ }
-{
-    let mut own_reads = none();
-    let mut own_writes = none();
-    add(&mut own_reads, reads, nr);
-    add(&mut own_writes, writes, nw);
-    let low = lowest(&own_reads, &own_writes, written, read);
-    Clashed {
-        low: low,
-        reads: own_reads,
-        writes: own_writes,
-    }
 }
 
 // How many bits of a word are set.

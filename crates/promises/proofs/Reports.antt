@@ -4,26 +4,23 @@ use Prim.Native.Nat.{ℕ}
 use mathlib.Core.Path.{_≡_, refl, sym, ap, _∙_}
 use mathlib.Core.Bool.{Bool, true, false, true≢false}
 use mathlib.Core.List.{List, []}
-use lib.Dec.{eqb, ltb}
-use Rattle.rules.specs.declared.Mode.{Mode}
-use Rattle.rules.specs.declared.Mode.the-variants.{Free, Waiting}
+use lib.Dec.{eqb}
 use Rattle.rules.specs.declared.Answer.{Answer}
-use Rattle.rules.specs.declared.Answer.the-variants.{Refused, Named}
+use Rattle.rules.specs.declared.Answer.the-variants.{Refused}
 use Rattle.rules.specs.Lists.{if_then_else_}
 use Rattle.rules.specs.Request.{Request, reduced, conflictsAny, promoted}
-use Rattle.rules.specs.Table.{Table}
 use Rattle.rules.specs.Prices.{Prices}
 use Rattle.rules.specs.Refusals.{firstOf, entryOf, finishRows, recheckRows, scanRows, grantRows, openRows, deliverRows}
 use Rattle.rules.specs.Counters.{cx, cs, alone}
 use Rattle.rules.specs.Clash.{clashesOn, lowestClash}
 use Rattle.rules.specs.Scan.{End, found, nothing, short}
-use Rattle.rules.specs.Calls.{Outcome, named, asked, found-answer, search, pickEnd, finishOf, recheckOf, scanOf, openOf, grantOf, pickOf, deliverOf}
+use Rattle.rules.specs.Calls.{Outcome, asked, found-answer, search, pickEnd, finishOf, recheckOf, scanOf, openOf, grantOf, pickOf, deliverOf}
 use Rattle.rules.specs.Said.{said}
 use Rattle.rules.specs.Runs.Call.{Begin, Finish, Recheck, Scan, Open, Grant, Pick, Deliver}
 use Rattle.rules.proofs.Tests.{if-either}
 use Rattle.rules.proofs.Admission.{begin-admits}
 use Rattle.rules.proofs.Clashing.{clash-conflicts, clash-shares, reduced-clashes, lowest-reported, joins-blocked, joins-clear}
-use Rattle.promises.specs.Reports.{heldUpOn, LowestOf, ReportOf, Reports, BeginAlone}
+use Rattle.promises.specs.Reports.{heldUpOn, LowestOf, Reports, BeginAlone}
 use Rattle.promises.proofs.Sales.{passes}
 
 -- ---- a Begin

@@ -12,9 +12,9 @@ use Rattle.rules.specs.declared.Mode.{Mode}
 use Rattle.rules.specs.declared.Mode.the-variants.{Blocked}
 use Rattle.rules.specs.declared.Answer.{Answer}
 use Rattle.rules.specs.declared.Answer.the-variants.{BlockedOn}
-use Rattle.rules.specs.Lists.{if_then_else_, some, keepIf}
-use Rattle.rules.specs.Records.{member, onlyRead}
-use Rattle.rules.specs.Request.{Request, reduced, conflictsAny, isBlocked, promoted, admitted}
+use Rattle.rules.specs.Lists.{some, keepIf}
+use Rattle.rules.specs.Records.{member}
+use Rattle.rules.specs.Request.{Request, conflictsAny, isBlocked, promoted, admitted}
 use Rattle.rules.specs.Clash.{writtenIn, readIn, clashAt, clashesOn, lower, lowestFrom, lowest, lowestClash}
 use Rattle.rules.specs.Calls.{named, begun}
 use Rattle.rules.specs.Said.{said}

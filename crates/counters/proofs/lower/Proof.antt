@@ -1,7 +1,7 @@
 -- What was taken so far, added again, is the counters as they were, and the map has the records whose counter is above 0.
 use Prim.Native.Nat.{_≤_, _<_, _-_}
 use native.Mathlib.Omega.{arith}
-use mathlib.Core.Path.{_≡_, refl, sym, ap, _∙_}
+use mathlib.Core.Path.{_≡_}
 use mathlib.Core.Logic.{⊎-elim}
 use lib.ListN.{length, getD, take}
 use Rattle.rules.proofs.Tests.{above-zero}

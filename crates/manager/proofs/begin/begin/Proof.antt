@@ -18,7 +18,7 @@ use Rattle.rules.proofs.Meters.{tenant-range}
 use Rattle.rules.proofs.Prices.{admission-price}
 use Rattle.rules.proofs.Refusals.{stranger}
 use Rattle.meter.specs.View.{meterView}
-use Rattle.maps.specs.Maps.{inMap}
+use Rattle.maps.proofs.OwnMaps.{own-map}
 use Rattle.entry.specs.Entry.{request, withSerial, Stands}
 use Rattle.entry.proofs.Typed.{Lists, entry-lists, few-take}
 use Rattle.counters.proofs.Marks.{marks-raised}
@@ -39,8 +39,9 @@ use Rattle.manager.proofs.begin.begin.Lts as lts
 use Rattle.counters.proofs.raise.Reads as raise-reads
 use Rattle.entry.proofs.few.Reads as few-reads
 use Rattle.entry.proofs.numbered.Reads as numbered-reads-2
-use Rattle.maps.proofs.clash.Reads as clash-reads
 use Rattle.maps.proofs.join.Reads as join-reads
+use Rattle.maps.proofs.lowest.Reads as lowest-reads
+use Rattle.maps.proofs.none.Reads as none-reads
 use Rattle.manager.proofs.begin.admitted.Reads as admitted-reads
 use Rattle.manager.proofs.begin.price.Reads as price-reads
 use Rattle.manager.proofs.begin.judge.Reads as judge-reads
@@ -171,25 +172,31 @@ read-list c = few-take _ (c .few .result) (lists (c .before) .reads) (c .few .en
 write-list : (c : tie.After-few2 Inv-loop μ-loop) → let e = made-of c .numbered2 .result in take (c .few2 .result) (e .writes) ≡ request e .writes
 write-list c = few-take _ (c .few2 .result) (lists (made-of c) .writes) (c .few2 .ensures)
 
--- from the verdict back to the lists' lengths, and from the raised counters to the verdict
-abbrev clashed-by : tie.After-clash Inv-loop μ-loop → tie.After-few2 Inv-loop μ-loop
-clashed-by c = c .before .before .before .before .before .before
+-- from the empty maps back to the lists' lengths, from what rises to these, and from the verdict to what rose
+abbrev emptied : tie.After-none2 Inv-loop μ-loop → tie.After-few2 Inv-loop μ-loop
+emptied c = c .before .before .before .before
 
-abbrev raised-by : tie.After-raise Inv-loop μ-loop → tie.After-clash Inv-loop μ-loop
-raised-by c = c .before .before
+abbrev raised-by : tie.After-raise Inv-loop μ-loop → tie.After-none2 Inv-loop μ-loop
+raised-by c = c .before .before .before
 
--- from the entry that joins back to the maps, from each map to what rose before it, and to where nothing was refused
+abbrev first-raised : tie.After-raise2 Inv-loop μ-loop → tie.After-raise Inv-loop μ-loop
+first-raised c = c .before .before .before
+
+abbrev told-by : tie.After-lowest Inv-loop μ-loop → tie.After-raise2 Inv-loop μ-loop
+told-by c = c .before .before .before .before .before .before
+
+abbrev lengths : tie.After-lowest Inv-loop μ-loop → tie.After-few2 Inv-loop μ-loop
+lengths c = emptied (raised-by (first-raised (told-by c)))
+
+-- from the maps that are joined back to the verdict, and from the entry that joins to where nothing was refused
+abbrev judged : tie.After-join Inv-loop μ-loop → tie.After-lowest Inv-loop μ-loop
+judged c = c .before .before .before
+
 abbrev first-joined : tie.After-join2 Inv-loop μ-loop → tie.After-join Inv-loop μ-loop
-first-joined c = c .before .before .before .before
-
-abbrev both-raised : tie.After-join Inv-loop μ-loop → tie.After-raise2 Inv-loop μ-loop
-both-raised c = c .before .before .before .before
-
-abbrev judged : tie.After-admitted Inv-loop μ-loop → tie.After-clash Inv-loop μ-loop
-judged c = raised-by (both-raised (first-joined (c .before)) .before .before)
+first-joined c = c .before .before .before
 
 abbrev joining : tie.After-admitted Inv-loop μ-loop → tie.Else3 Inv-loop μ-loop
-joining c = unrefused (made-of (clashed-by (judged c)))
+joining c = unrefused (made-of (lengths (judged (first-joined (c .before)))))
 
 meter-of-requires : tie.Need-meter-of-requires Inv-loop μ-loop
 meter-of-requires c κs = search needs
@@ -269,37 +276,43 @@ few-requires c κs = search needs
 few-requires-2 : tie.Need-few-requires-2 Inv-loop μ-loop
 few-requires-2 c κs = search needs
 
-clash-requires : tie.Need-clash-requires Inv-loop μ-loop
-clash-requires c κs =
-    let two = c .before .before .before .before .before in
-    (omega (arith, two .before .few .ensures), omega (arith, two .few2 .ensures))
+none-requires : tie.Need-none-requires Inv-loop μ-loop
+none-requires c κs = search needs
+
+none-requires-2 : tie.Need-none-requires-2 Inv-loop μ-loop
+none-requires-2 c κs = search needs
 
 raise-requires : tie.Need-raise-requires Inv-loop μ-loop
 raise-requires c κs =
-    let two = clashed-by (c .before) in
+    let own = c .before .before in
+    let two = emptied own in
     let one = unrefused (made-of two) in
     let s = start one in
-    (omega (arith, two .few2 .ensures), (under (s .pre) (slots s) _ _ _ _ (none one) (λ a. a .writes) (s .pre .tied .writers), state-sized (s .args .s) _ (s .good .0) .writers))
+    (omega (arith, two .few2 .ensures), (under (s .pre) (slots s) _ _ _ _ (none one) (λ a. a .writes) (s .pre .tied .writers), (state-sized (s .args .s) _ (s .good .0) .writers, own .none2 .ok .1 .0 .1)))
 
 raise-requires-2 : tie.Need-raise-requires-2 Inv-loop μ-loop
 raise-requires-2 c κs =
-    let few = clashed-by (raised-by (c .before)) .before in
+    let own = raised-by (c .before .before) in
+    let few = emptied own .before in
     let one = unrefused (few .before) in
     let s = start one in
-    (omega (arith, few .few .ensures), (under (s .pre) (slots s) _ _ _ _ (none one) (λ a. a .reads) (s .pre .tied .readers), state-sized (s .args .s) _ (s .good .0) .readers))
+    (omega (arith, few .few .ensures), (under (s .pre) (slots s) _ _ _ _ (none one) (λ a. a .reads) (s .pre .tied .readers), (state-sized (s .args .s) _ (s .good .0) .readers, own .before .none .ok .1 .0 .1)))
+
+lowest-requires : tie.Need-lowest-requires Inv-loop μ-loop
+lowest-requires c κs = search needs
 
 join-requires : tie.Need-join-requires Inv-loop μ-loop
 join-requires c κs =
-    let s = start (unrefused (made-of (clashed-by (raised-by (c .before .before .before .before .before))))) in
+    let s = start (unrefused (made-of (lengths (c .before .before)))) in
     state-sized (s .args .s) _ (s .good .0) .written .size
 
 join-requires-2 : tie.Need-join-requires-2 Inv-loop μ-loop
 join-requires-2 c κs =
-    let s = start (unrefused (made-of (clashed-by (raised-by (both-raised (c .before .before .before) .before .before))))) in
+    let s = start (unrefused (made-of (lengths (judged (c .before .before))))) in
     state-sized (s .args .s) _ (s .good .0) .read .size
 
 admitted-requires : tie.Need-admitted-requires Inv-loop μ-loop
-admitted-requires c κs = made-of (clashed-by (raised-by (both-raised (first-joined c) .before .before))) .numbered2 .ensures .tidy
+admitted-requires c κs = made-of (lengths (judged (first-joined c))) .numbered2 .ensures .tidy
 
 mul-joins : tie.Need-mul-joins Inv-loop μ-loop
 mul-joins c = omega (arith, place (joining (c .before)))
@@ -315,23 +328,25 @@ returns-2 c =
     let j = c .before in
     let second = j .before in
     let first = first-joined second in
-    let up = both-raised first in
-    let told = judged j in
-    let two = clashed-by told in
+    let told = judged first in
+    let up = told-by told in
+    let raise = first-raised up in
+    let empty = raised-by raise in
+    let two = emptied empty in
     let made = made-of two in
     let one = unrefused made in
     let s = start one in
     let paid = made .before in
     let cost = price-is (paid .before) in
     let given = paid .before .before .numbered .ensures ∙ ap numbered (meter-is one) in
-    let clash = told .clash .ensures in
-    let raise = up .before .before in
-    let x = rw (write-list two) at (raise .raise .ensures) in
-    let y = rw (read-list (two .before)) at (up .raise2 .ensures) in
-    let written = marks-raised (s .pre .tied .written) (clash .own-writes) (first .join .ensures) (raise .raise .ensures) in
-    let read = marks-raised (s .pre .tied .read) (clash .own-reads) (second .join2 .ensures) (up .raise2 .ensures) in
-    let low = by-lists (inMap (s .args .s .written)) (inMap (s .args .s .read)) (told .clash .result .low) (request (made .numbered2 .result)) (read-list (two .before)) (write-list two) (clash .low) in
-    begin-did (s .pre) (slots s) _ _ _ _ (none one) (told .clash .result .low) (j .admitted .result) (made-is made) (lists made) x y written read low (j .admitted .ensures) cost (paid .charged .ensures ∙ ap (λ (m : LawMeter). spent m (paid .before .price .result)) given)
+    let x = rw (write-list two) at (raise .raise .ensures .0) in
+    let y = rw (read-list (two .before)) at (up .raise2 .ensures .0) in
+    let own-writes = own-map (empty .none2 .ensures) (raise .raise .ensures .1) in
+    let own-reads = own-map (empty .before .none .ensures) (up .raise2 .ensures .1) in
+    let written = marks-raised (s .pre .tied .written) own-writes (first .join .ensures) (raise .raise .ensures .0) in
+    let read = marks-raised (s .pre .tied .read) own-reads (second .join2 .ensures) (up .raise2 .ensures .0) in
+    let low = by-lists (s .args .s .written) (s .args .s .read) (told .lowest .result) (request (made .numbered2 .result)) (read-list (two .before)) (write-list two) own-reads own-writes (told .lowest .ensures) in
+    begin-did (s .pre) (slots s) _ _ _ _ (none one) (told .lowest .result) (j .admitted .result) (made-is made) (lists made) x y written read low (j .admitted .ensures) cost (paid .charged .ensures ∙ ap (λ (m : LawMeter). spent m (paid .before .price .result)) given)
 
 pub begin-spec : {M : Type 1} → statement M
 begin-spec =
@@ -361,9 +376,11 @@ begin-spec =
     numbered-requires-2
     few-requires
     few-requires-2
-    clash-requires
+    none-requires
+    none-requires-2
     raise-requires
     raise-requires-2
+    lowest-requires
     join-requires
     join-requires-2
     admitted-requires
