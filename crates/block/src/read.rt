@@ -172,10 +172,10 @@ pub fn state(b: &[u8]) -> State
     let cs = counters_from(b, 380);
     let meters = meters_from(b);
     let count = bytes::index(b[639]);
-    let entries = entries_from(b, count);
     let marks = marks_from(b, count);
     let written = marks.written;
     let read = marks.read;
+    let entries = entries_from(b, count);
     let said = Said {
         answer: Answer::Nothing,
         burnt: 0,

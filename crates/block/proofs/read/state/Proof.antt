@@ -33,20 +33,21 @@ shared-slice-read-index c = omega (arith, whole (c .before .before .before .befo
 index-requires : tie.Need-index-requires
 index-requires c κs = search needs
 
-entries-from-requires : tie.Need-entries-from-requires
-entries-from-requires c κs = (c .before .before .before .before .before .before .pre, c .index .ensures .0)
-
 marks-from-requires : tie.Need-marks-from-requires
-marks-from-requires c κs = let n = c .before in (n .before .before .before .before .before .before .pre, n .index .ensures .0)
+marks-from-requires c κs = (c .before .before .before .before .before .before .pre, c .index .ensures .0)
+
+entries-from-requires : tie.Need-entries-from-requires
+entries-from-requires c κs =
+    let n = c .before .before .before in
+    (n .before .before .before .before .before .before .pre, n .index .ensures .0)
 
 returns : tie.Need-returns
 returns c =
-    let marks = c .before .before in
-    let e = marks .before in
-    let m = e .before .before .before in
+    let marks = c .before .before .before in
+    let m = marks .before .before .before in
     let y = m .before in
     let x = y .before in
-    loaded (x .before .before .pre) (x .counters-from .ensures) (y .counters-from2 .ensures) (m .meters-from .ensures) (e .entries-from .ensures) (marks .marks-from .ensures)
+    loaded (x .before .before .pre) (x .counters-from .ensures) (y .counters-from2 .ensures) (m .meters-from .ensures) (c .entries-from .ensures) (marks .marks-from .ensures)
 
 pub state-spec : {M : Type 1} → statement M
 state-spec =
@@ -57,6 +58,6 @@ state-spec =
     meters-from-requires
     shared-slice-read-index
     index-requires
-    entries-from-requires
     marks-from-requires
+    entries-from-requires
     returns)
