@@ -11,10 +11,6 @@ use Rattle.block.specs.Block.{tab}
 use Rattle.block.proofs.Places.{tab-length, tab-get}
 
 module _ {A : Type 0} where
-  pub each-both : {P Q R : A → Type 0} {l : List A} → Each P l → Each Q l → ((x : A) → P x → Q x → R x) → Each R l
-  each-both none none f = none
-  each-both (also p ps) (also q qs) f = also (f _ p q) (each-both ps qs f)
-
   pub each-pair : {P Q : A → Type 0} {l : List A} → Each P l → Each Q l → Each (λ x. P x × Q x) l
   each-pair none none = none
   each-pair (also p ps) (also q qs) = also (p, q) (each-pair ps qs)

@@ -13,6 +13,7 @@ use Rattle.rules.proofs.Order.{each-map}
 use Rattle.rules.proofs.Sound.{sound-any}
 use Rattle.promises.specs.Fuel.{PricesPaid, Balanced, Counted}
 use Rattle.promises.specs.Names.{NamesDiffer, HasLeft, isQueued}
+use Rattle.promises.specs.Order.{KeepsOrder, LeftForGood, RunsInTurn, TotalOrder, QueueInOrder, points}
 use Rattle.promises.specs.Drains.{NoneHangs, draining, Drained}
 use Rattle.promises.specs.Sales.{Ask, begin, HeldUp, meeting, Meet}
 use Rattle.promises.specs.Promises.{Promises}
@@ -58,4 +59,9 @@ every-run shares first cs rs last real =
           let law = of (λ run. Meet clause9 run a b between → Waits b r (meeting clause9 run a between)) (λ m. promised .second-waits shares cs between a b r m share) in
           let waits = subst (λ run. Waits b r (run .table)) (ran-run ran) (law met) in
           (waits .0, ap (λ (o : Outcome). o .answer) (did-seen did) ∙ waits .1, waits .2);
+      order = of KeepsOrder (promised .order shares cs);
+      left-for-good = of LeftForGood (promised .stays-away shares cs);
+      runs-in-turn = of RunsInTurn (promised .run-in-order shares cs);
+      admission-total = of (λ r. TotalOrder (r .steps)) (promised .admission-total shares cs);
+      queue-in-order = of (λ r. Each QueueInOrder (points r)) (promised .queue-order shares cs);
     }

@@ -11,6 +11,7 @@ use Rattle.rules.specs.Sound.{Each}
 use Rattle.rules.specs.Runs.{Call, isOpen}
 use Rattle.promises.specs.Fuel.{PricesPaid, Balanced, Counted}
 use Rattle.promises.specs.Names.{NamesDiffer, HasLeft, isQueued}
+use Rattle.promises.specs.Order.{KeepsOrder, LeftForGood, RunsInTurn, TotalOrder, QueueInOrder, points}
 use Rattle.promises.specs.Drains.{NoneHangs, draining, Drained}
 use Rattle.promises.specs.Sales.{Ask, begin, shareOne, HeldUp, Meet}
 use Rattle.manager.specs.declared.State.{State}
@@ -64,6 +65,14 @@ pub record OfRun (last : CodeRun) : Type 0 where
   pub drains : CanDrain (last .state)
   -- document 02, item 4: who reads a record and writes it back has it alone
   pub second-sale : SecondSale last
+  -- document 02, item 6: "of two admitted requests that conflict, the one admitted later does not become Free or Waiting before the
+  -- earlier one has left the queue", and what has left has left for good
+  pub order : KeepsOrder (seenRun last)
+  pub left-for-good : LeftForGood (seenRun last)
+  -- so conflicting requests run in the order of their admission, which is total, and is the order of the queue
+  pub runs-in-turn : RunsInTurn (seenRun last)
+  pub admission-total : TotalOrder (seenRun last .steps)
+  pub queue-in-order : Each QueueInOrder (points (seenRun last))
 
 abbrev pub EveryRun : Type 0
 EveryRun =

@@ -154,7 +154,7 @@ module _ {p : Prices} (f : Fair p) (t : Table) (who : ℕ) (h : isTenant who ≡
   paid (Deliver w serial) shut = host-paid (deliverOf t w serial) (deliver-held w serial)
 
 -- ---- over a run
-open-empty : (shares : List ℕ) → openOf shares .table .queue ≡ []
+pub open-empty : (shares : List ℕ) → openOf shares .table .queue ≡ []
 unfolding openOf fresh
 open-empty shares = if-either (λ (t : Table). t .queue ≡ []) (eqb (firstOf (openRows shares)) 0) refl refl
 

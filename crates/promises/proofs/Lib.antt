@@ -8,8 +8,13 @@ pub mod Admitted
 pub mod Numbers
 pub mod Changes
 pub mod Names
+pub mod Admissions
+pub mod Left
+pub mod Points
+pub mod Order
 pub mod Sales
 pub mod Reports
 pub mod Drains
 pub mod Hung
+pub mod Overtaken
 pub mod Promises

@@ -39,9 +39,9 @@ pub record Book (t : Table) (steps : List Step) : Type 0 where
   given : Each (λ k. k .serial ≤ givenBy t (k .tenant)) (admissions steps)
   past : Each (Was t) (map (λ s. s .met) steps)
 
-opening : (shares : List ℕ) → Book (openOf shares .table) []
+pub book-opens : (shares : List ℕ) → Book (openOf shares .table) []
 unfolding admissions
-opening shares = record { sound = open-sound shares; rise = InOrder.none; given = Each.none; past = Each.none }
+book-opens shares = record { sound = open-sound shares; rise = InOrder.none; given = Each.none; past = Each.none }
 
 -- ---- what a change of the queue keeps
 pub each-end : {A : Type 0} {P : A → Type 0} (xs : List A) {e : A} → Each P (xs ++ e ∷ []) → P e
@@ -62,9 +62,9 @@ module _ {t : Table} where
   change-given u cs (Change.changes at e k) f g = rw (append-nil cs) g
 
 module _ (p : Prices) where
-  keeps : (t : Table) (steps : List Step) (c : Call) → SoundAny t → isOpen c ≡ false → Book t steps → Book (step p t c .table) (made p t c ∷ steps)
+  pub book-keeps : (t : Table) (steps : List Step) (c : Call) → SoundAny t → isOpen c ≡ false → Book t steps → Book (step p t c .table) (made p t c ∷ steps)
   unfolding admissions
-  keeps t steps c s shut b =
+  book-keeps t steps c s shut b =
       let u = step p t c .table in
       let su : SoundAny u = step-any p s c in
       let g : Grown t u = grown p t c shut in
@@ -79,7 +79,7 @@ module _ (p : Prices) where
       }
 
   pub book : (shares : List ℕ) (calls : List Call) → let r = reached p shares calls in Book (r .table) (r .steps)
-  book = any-run p Book opening keeps
+  book = any-run p Book book-opens book-keeps
 
 -- ---- the names differ
 differ : (a b : Claim) → Rise a b → sameName a b ≡ false
@@ -93,7 +93,7 @@ differ a b r = go (sameName a b) refl
         absurd (omega arith)
     go false h = h
 
-order-each : {A : Type 0} {R S : A → A → Type 0} {xs : List A} → ((x y : A) → R x y → S x y) → InOrder R xs → InOrder S xs
+pub order-each : {A : Type 0} {R S : A → A → Type 0} {xs : List A} → ((x y : A) → R x y → S x y) → InOrder R xs → InOrder S xs
 order-each f InOrder.none = InOrder.none
 order-each f (InOrder.also {x = x} k o) = InOrder.also (each-map (f x) k) (order-each f o)
 
@@ -102,7 +102,7 @@ own-names p shares calls = order-each differ (book p shares calls .rise)
 
 -- ---- two steps of a run
 -- the first elements; and those before the last stand so to it
-each-init : {A : Type 0} {P : A → Type 0} (xs ys : List A) → Each P (xs ++ ys) → Each P xs
+pub each-init : {A : Type 0} {P : A → Type 0} (xs ys : List A) → Each P (xs ++ ys) → Each P xs
 each-init [] ys h = Each.none
 each-init (x ∷ xs) ys (Each.also p h) = Each.also p (each-init xs ys h)
 
@@ -114,13 +114,13 @@ order-end : {A : Type 0} {R : A → A → Type 0} (xs : List A) {e : A} → InOr
 order-end [] o = Each.none
 order-end (x ∷ xs) (InOrder.also k o) = Each.also (each-end xs k) (order-end xs o)
 
-admissions-append : (later steps : List Step) → admissions (later ++ steps) ≡ admissions steps ++ admissions later
+pub admissions-append : (later steps : List Step) → admissions (later ++ steps) ≡ admissions steps ++ admissions later
 unfolding admissions
 admissions-append [] steps = sym (append-nil (admissions steps))
 admissions-append (s ∷ later) steps =
     ap (λ (l : List Claim). l ++ admittedBy (s .call) (s .outcome .answer)) (admissions-append later steps) ∙ append-assoc (admissions steps) (admissions later) (admittedBy (s .call) (s .outcome .answer))
 
-admitted-is : (s : Step) (c : Claim) → AdmittedAt s c → admittedBy (s .call) (s .outcome .answer) ≡ c ∷ []
+pub admitted-is : (s : Step) (c : Claim) → AdmittedAt s c → admittedBy (s .call) (s .outcome .answer) ≡ c ∷ []
 admitted-is s c a =
     ap (λ (k : Call). admittedBy k (s .outcome .answer)) (a .call) ∙ ap (λ (values : List ℕ). answered (record { reads = a .reads; writes = c .writes }) values) (a .answer) ∙
     ap (λ (reads : List ℕ). record { tenant = c .tenant; serial = c .serial; reads = reads; writes = c .writes } ∷ []) (sym (a .reduced))
@@ -135,7 +135,7 @@ pair-at {a} {b} {x} {y} m ax by =
     ap (λ (l : List Claim). (l ++ admittedBy (b .call) (b .outcome .answer)) ++ admissions (m .later)) inner ∙
     ap (λ (l : List Claim). (((admissions (m .earlier) ++ x ∷ []) ++ admissions (m .between)) ++ l) ++ admissions (m .later)) (admitted-is b y by)
 
-pair-of : {R : Claim → Claim → Type 0} {a b : Step} {x y : Claim} {steps : List Step} → MadeBefore a b steps → AdmittedAt a x → AdmittedAt b y → InOrder R (admissions steps) → R x y
+pub pair-of : {R : Claim → Claim → Type 0} {a b : Step} {x y : Claim} {steps : List Step} → MadeBefore a b steps → AdmittedAt a x → AdmittedAt b y → InOrder R (admissions steps) → R x y
 pair-of {R} {a} {b} {x} {y} m ax by o =
     let front = (admissions (m .earlier) ++ x ∷ []) ++ admissions (m .between) in
     let k : InOrder R ((front ++ y ∷ []) ++ admissions (m .later)) = subst (InOrder R) (pair-at m ax by) o in
@@ -169,20 +169,20 @@ each-changed Each.none at e f = Each.none
 each-changed (Each.also p h) zero e f = Each.also (f p) h
 each-changed (Each.also p h) (suc at) e f = Each.also p (each-changed h at e f)
 
-change-away : (who serial : ℕ) (t : Table) (added : List Claim) (q : List Request) → Change t added q → serial ≤ givenBy t who → Each (λ e. isNamed who serial e ≡ false) (t .queue) → Each (λ e. isNamed who serial e ≡ false) q
+pub change-away : (who serial : ℕ) (t : Table) (added : List Claim) (q : List Request) → Change t added q → serial ≤ givenBy t who → Each (λ e. isNamed who serial e ≡ false) (t .queue) → Each (λ e. isNamed who serial e ≡ false) q
 change-away who serial t _ _ Change.same le h = h
 change-away who serial t _ _ (Change.joins e k) le h = each-last h (fresh-name t who serial e k le)
 change-away who serial t _ _ (Change.leaves at) le h = each-without at h
 change-away who serial t _ _ (Change.changes at e k) le h = each-changed h at e (λ old. ap (λ (c : Claim). eqb (c .tenant) who && eqb (c .serial) serial) k ∙ old)
 
 -- no element passes the test
-none-some : {A : Type 0} (f : A → Bool) {xs : List A} → Each (λ x. f x ≡ false) xs → some f xs ≡ false
+pub none-some : {A : Type 0} (f : A → Bool) {xs : List A} → Each (λ x. f x ≡ false) xs → some f xs ≡ false
 unfolding some
 none-some f Each.none = refl
 none-some f (Each.also {x = x} {xs = xs} p h) = ap (λ (b : Bool). b || some f xs) p ∙ none-some f h
 
 -- an element that passes the test, and what holds of each
-found-in : {A : Type 0} {P : A → Type 0} (f : A → Bool) {xs : List A} → Each P xs → some f xs ≡ true → (x : A) × (f x ≡ true) × P x
+pub found-in : {A : Type 0} {P : A → Type 0} (f : A → Bool) {xs : List A} → Each P xs → some f xs ≡ true → (x : A) × (f x ≡ true) × P x
 unfolding some
 found-in f Each.none e = absurd (false≢true e)
 found-in {A} {P} f (Each.also {x = x} {xs = xs} p h) e = ⊎-elim (λ (k : f x ≡ true). (x, k, p)) (λ (k : some f xs ≡ true). found-in f h k) (either (f x) (some f xs) e)
@@ -202,6 +202,9 @@ was-given who serial t (s ∷ steps) (Each.also w h) e = ⊎-elim
     (λ (k : some (λ (s : Step). isQueued who serial (s .met)) steps ≡ true). was-given who serial t steps h k)
     (either (isQueued who serial (s .met)) (some (λ (s : Step). isQueued who serial (s .met)) steps) e)
 
+pub left-given : {t : Table} {steps : List Step} → Book t steps → (who serial : ℕ) → some (λ s. isQueued who serial (s .met)) steps ≡ true → serial ≤ givenBy t who
+left-given {t} {steps} b who serial was = was-given who serial t steps (b .past) was
+
 module _ (p : Prices) where
   -- what each change of the queue keeps, once the serial was given, further calls keep
   pub kept-on : (who serial : ℕ) (P : List Request → Type 0) → ((t : Table) (added : List Claim) (q : List Request) → Change t added q → serial ≤ givenBy t who → P (t .queue) → P q) → (more : List Call) (r : Run) → every (λ c. not (isOpen c)) more ≡ true → serial ≤ givenBy (r .table) who → P (r .table .queue) → P (runOf p r more .table .queue)
@@ -216,6 +219,6 @@ module _ (p : Prices) where
   pub never-back : NeverBack p
   never-back shares calls more who serial left shut =
       let r = reached p shares calls in
-      let b = book p shares calls in
+      let given = left-given (book p shares calls) who serial (left .was) in
       let away = each-none (isNamed who serial) (r .table .queue) (left .gone) in
-      none-some (isNamed who serial) (kept-on who serial (Each (λ e. isNamed who serial e ≡ false)) (change-away who serial) more r shut (was-given who serial (r .table) (r .steps) (b .past) (left .was)) away)
+      none-some (isNamed who serial) (kept-on who serial (Each (λ e. isNamed who serial e ≡ false)) (change-away who serial) more r shut given away)

@@ -18,6 +18,7 @@ use Rattle.promises.proofs.Names.{own-names, two-names, never-back}
 use Rattle.promises.proofs.Drains.{never-hangs, drains, always-drains}
 use Rattle.promises.proofs.Sales.{sellers-conflict, second-waits}
 use Rattle.promises.proofs.Reports.{reports, begin-alone}
+use Rattle.promises.proofs.Order.{order, stays-away, run-in-order, admission-total, queue-order}
 
 pub promises : {p : Prices} → Fair p → Promises p
 promises {p} f = record {
@@ -51,6 +52,11 @@ promises {p} f = record {
   second-waits = second-waits p;
   reports = reports p;
   begin-alone = begin-alone p;
+  order = order p;
+  stays-away = stays-away p;
+  run-in-order = run-in-order p;
+  admission-total = admission-total p;
+  queue-order = queue-order p;
 }
 
 pub clause9-fair : Fair clause9

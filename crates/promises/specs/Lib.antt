@@ -4,8 +4,10 @@ pub mod Refused
 pub mod Searches
 pub mod Places
 pub mod Names
+pub mod Order
 pub mod Sales
 pub mod Reports
 pub mod Drains
 pub mod Hung
+pub mod Overtaken
 pub mod Promises

@@ -14,6 +14,7 @@ use Rattle.promises.specs.Names.{OwnNames, TwoNames, NeverBack}
 use Rattle.promises.specs.Drains.{NeverHangs, Drains, AlwaysDrains}
 use Rattle.promises.specs.Sales.{SellersConflict, SecondWaits}
 use Rattle.promises.specs.Reports.{Reports, BeginAlone}
+use Rattle.promises.specs.Order.{Order, StaysAway, RunInOrder, AdmissionTotal, QueueOrder}
 
 -- 9 the states reached are sound, and name no records but those that the calls named
 abbrev pub AllSound : Prices → Type 1
@@ -67,6 +68,14 @@ pub record Promises (p : Prices) : Type 1 where
   -- 14
   pub reports : Reports p
   pub begin-alone : BeginAlone p
+  -- 15
+  pub order : Order p
+  pub stays-away : StaysAway p
+  -- 16
+  pub run-in-order : RunInOrder p
+  -- 17
+  pub admission-total : AdmissionTotal p
+  pub queue-order : QueueOrder p
 
 pub record AtClause9 : Type 1 where
   pub all : Promises clause9

@@ -27,6 +27,10 @@ module _ {A : Type 0} where
   each-map f Each.none = Each.none
   each-map f (Each.also {x = x} p h) = Each.also (f x p) (each-map f h)
 
+  pub each-both : {P Q R : A → Type 0} {xs : List A} → Each P xs → Each Q xs → ((x : A) → P x → Q x → R x) → Each R xs
+  each-both Each.none Each.none f = Each.none
+  each-both (Each.also {x = x} p ps) (Each.also q qs) f = Each.also (f x p q) (each-both ps qs f)
+
   pub each-append : {P : A → Type 0} {xs ys : List A} → Each P xs → Each P ys → Each P (xs ++ ys)
   each-append Each.none k = k
   each-append (Each.also p h) k = Each.also p (each-append h k)
@@ -67,6 +71,10 @@ module _ {A : Type 0} where
   each-none f (x ∷ xs) h = let p = neither (f x) (some f xs) h in Each.also (p .0) (each-none f xs (p .1))
 
   -- ---- each two in order
+  pub order-both : {P : A → Type 0} {R S : A → A → Type 0} {xs : List A} → Each P xs → InOrder R xs → ((x y : A) → P x → P y → R x y → S x y) → InOrder S xs
+  order-both Each.none InOrder.none f = InOrder.none
+  order-both (Each.also {x = x} p ps) (InOrder.also k o) f = InOrder.also (each-both ps k (λ y q r. f x y p q r)) (order-both ps o f)
+
   pub order-last : {R : A → A → Type 0} {xs : List A} {e : A} → InOrder R xs → Each (λ x. R x e) xs → InOrder R (xs ++ e ∷ [])
   order-last InOrder.none h = InOrder.also Each.none InOrder.none
   order-last (InOrder.also q o) (Each.also p h) = InOrder.also (each-last q p) (order-last o h)

@@ -1,0 +1,199 @@
+-- Whom a run admitted, told by its steps and as a list: the two say the same. A name's number in the list is its own, so the order
+-- of admission is total.
+use Prim.Native.Nat.{ℕ, suc, _+_, _<_}
+use mathlib.Core.Path.{_≡_, refl, sym, ap, subst, _∙_}
+use mathlib.Core.Bool.{Bool, true, false, _&&_, false≢true}
+use mathlib.Core.List.{List, [], _∷_, _++_, append-assoc}
+use mathlib.Core.Logic.{_⊎_, inl, inr, ⊎-elim}
+use native.Mathlib.Omega.{arith}
+use lib.Dec.{eqb}
+use borrow.Author.Tests.{eq-eqb}
+use Rattle.rules.specs.declared.Answer.the-variants.{Refused}
+use Rattle.rules.specs.Lists.{before}
+use Rattle.rules.specs.Request.{Request, reduced}
+use Rattle.rules.specs.Table.{Table}
+use Rattle.rules.specs.Prices.{Prices}
+use Rattle.rules.specs.Refusals.{firstOf, beginRows}
+use Rattle.rules.specs.Calls.{asked, begun, beginOf}
+use Rattle.rules.specs.Said.{said}
+use Rattle.rules.specs.Sound.{Each, InOrder}
+use Rattle.rules.specs.Runs.{Call, Step, step}
+use Rattle.rules.specs.Runs.Call.{Begin, Finish, Recheck, Scan, Open, Grant, Pick, Deliver}
+use Rattle.rules.proofs.Tests.{eqb-sym}
+use Rattle.rules.proofs.Order.{each-map, each-both, order-both}
+use Rattle.rules.proofs.Clashing.{begun-said}
+use Rattle.promises.specs.Names.{Claim, admittedBy, admissions, sameName, NamesDiffer, AdmittedAt, MadeBefore}
+use Rattle.promises.specs.Order.{AdmittedIn, InTurn, TotalOrder}
+use Rattle.promises.proofs.Runs.{made}
+use Rattle.promises.proofs.Names.{each-end, each-init, admissions-append, admitted-is, pair-of}
+
+-- ---- from the steps to the list
+-- what holds of each in the list holds of who was admitted at a step, and so of two
+pub one-of : {P : Claim → Type 0} {c : Claim} {steps : List Step} → AdmittedIn c steps → Each P (admissions steps) → P c
+unfolding admissions
+one-of {P} {c} m h =
+    let place : admissions (m .step ∷ m .earlier) ≡ admissions (m .earlier) ++ c ∷ [] = ap (λ (l : List Claim). admissions (m .earlier) ++ l) (admitted-is (m .step) c (m .at)) in
+    let all = ap admissions (m .is) ∙ admissions-append (m .later) (m .step ∷ m .earlier) ∙ ap (λ (l : List Claim). l ++ admissions (m .later)) place in
+    each-end (admissions (m .earlier)) (each-init (admissions (m .earlier) ++ c ∷ []) (admissions (m .later)) (subst (Each P) all h))
+
+pub two-of : {R : Claim → Claim → Type 0} {a b : Claim} {steps : List Step} → InTurn a b steps → InOrder R (admissions steps) → R a b
+two-of i o = pair-of (i .made) (i .earlier) (i .later) o
+
+-- ---- from the list to the steps: whom a step adds, it admitted
+module _ (p : Prices) (t : Table) where
+  begin-made : (who awaited : ℕ) (reads writes : List ℕ) → let c = Begin who awaited reads writes in Each (AdmittedAt (made p t c)) (admittedBy c (step p t c .answer))
+  unfolding beginOf
+  begin-made who awaited reads writes = go (eqb (firstOf (beginRows p t e)) 0) refl
+    where
+      e : Request
+      e = asked t who awaited reads writes
+
+      s : Step
+      s = made p t (Begin who awaited reads writes)
+
+      go : (b : Bool) → eqb (firstOf (beginRows p t e)) 0 ≡ b → Each (AdmittedAt s) (admittedBy (s .call) (s .outcome .answer))
+      go true z =
+          let says : said (s .outcome .answer) .values ≡ who ∷ e .serial ∷ [] = rw z (begun-said (t .queue) (reduced e) .1) in
+          rw says (Each.also (record { awaited = awaited; reads = reads; reduced = refl; call = refl; answer = says }) Each.none)
+      go false z =
+          let says : said (s .outcome .answer) .values ≡ firstOf (beginRows p t e) ∷ [] = rw z in
+          rw says Each.none
+
+  pub made-admits : (c : Call) → Each (AdmittedAt (made p t c)) (admittedBy c (step p t c .answer))
+  made-admits (Begin who awaited reads writes) = begin-made who awaited reads writes
+  made-admits (Finish who serial) = Each.none
+  made-admits (Recheck who serial) = Each.none
+  made-admits (Scan who) = Each.none
+  made-admits (Open shares) = Each.none
+  made-admits (Grant who amount) = Each.none
+  made-admits Pick = Each.none
+  made-admits (Deliver who serial) = Each.none
+
+-- ---- further steps
+pub admitted-on : {c : Claim} {steps : List Step} (since : List Step) → AdmittedIn c steps → AdmittedIn c (since ++ steps)
+admitted-on since m = record {
+  step = m .step;
+  later = since ++ m .later;
+  earlier = m .earlier;
+  is = ap (λ (l : List Step). since ++ l) (m .is) ∙ sym (append-assoc since (m .later) (m .step ∷ m .earlier));
+  at = m .at;
+}
+
+pub turn-on : {a b : Claim} {steps : List Step} (since : List Step) → InTurn a b steps → InTurn a b (since ++ steps)
+turn-on since i = record {
+  first = i .first;
+  second = i .second;
+  made = record {
+    later = since ++ i .made .later;
+    between = i .made .between;
+    earlier = i .made .earlier;
+    is = ap (λ (l : List Step). since ++ l) (i .made .is) ∙ sym (append-assoc since (i .made .later) (i .second ∷ (i .made .between ++ i .first ∷ i .made .earlier)));
+  };
+  earlier = i .earlier;
+  later = i .later;
+}
+
+-- the two of a pair were admitted
+pub first-in : {a b : Claim} {steps : List Step} → InTurn a b steps → AdmittedIn a steps
+first-in i = record {
+  step = i .first;
+  later = i .made .later ++ i .second ∷ i .made .between;
+  earlier = i .made .earlier;
+  is = i .made .is ∙ sym (append-assoc (i .made .later) (i .second ∷ i .made .between) (i .first ∷ i .made .earlier));
+  at = i .earlier;
+}
+
+pub second-in : {a b : Claim} {steps : List Step} → InTurn a b steps → AdmittedIn b steps
+second-in i = record {
+  step = i .second;
+  later = i .made .later;
+  earlier = i .made .between ++ i .first ∷ i .made .earlier;
+  is = i .made .is;
+  at = i .later;
+}
+
+-- who is admitted by a further step was admitted after all that were before
+pub turn-next : {a b : Claim} {s : Step} {steps : List Step} → AdmittedIn a steps → AdmittedAt s b → InTurn a b (s ∷ steps)
+turn-next {s = s} m at = record {
+  first = m .step;
+  second = s;
+  made = record { later = []; between = m .later; earlier = m .earlier; is = ap (λ (l : List Step). s ∷ l) (m .is) };
+  earlier = m .at;
+  later = at;
+}
+
+-- ---- two places in a list of steps
+two-places : (s z : Step) (xs ss ys zs : List Step) → xs ++ s ∷ ss ≡ ys ++ z ∷ zs → (s ≡ z) ⊎ (MadeBefore s z (xs ++ s ∷ ss) ⊎ MadeBefore z s (xs ++ s ∷ ss))
+two-places s z [] ss [] zs e = inl cc
+two-places s z [] ss (y ∷ ys) zs e = inr (inr (record { later = []; between = ys; earlier = zs; is = cc }))
+two-places s z (x ∷ xs) ss [] zs e = inr (inl (record { later = []; between = xs; earlier = ss; is = cc }))
+two-places s z (x ∷ xs) ss (y ∷ ys) zs e =
+    let rest : xs ++ s ∷ ss ≡ ys ++ z ∷ zs = cc in
+    ⊎-elim inl (λ apart. inr (⊎-elim (λ m. inl (on x m)) (λ m. inr (on x m)) apart)) (two-places s z xs ss ys zs rest)
+  where
+    on : (x : Step) {s z : Step} {l : List Step} → MadeBefore s z l → MadeBefore s z (x ∷ l)
+    on x m = record { later = x ∷ m .later; between = m .between; earlier = m .earlier; is = ap (λ (l : List Step). x ∷ l) (m .is) }
+
+-- two requests of a run are one, or were admitted one before the other
+pub same-or-turn : {a b : Claim} {steps : List Step} → AdmittedIn a steps → AdmittedIn b steps → (a ≡ b) ⊎ (InTurn a b steps ⊎ InTurn b a steps)
+same-or-turn {a} {b} {steps} m n = ⊎-elim
+    (λ (same : m .step ≡ n .step).
+    let one : a ∷ [] ≡ b ∷ [] = sym (admitted-is (m .step) a (m .at)) ∙ ap (λ (s : Step). admittedBy (s .call) (s .outcome .answer)) same ∙ admitted-is (n .step) b (n .at) in
+    inl cc)
+    (λ apart. inr (⊎-elim
+    (λ k. inl (record { first = m .step; second = n .step; made = subst (MadeBefore (m .step) (n .step)) (sym (m .is)) k; earlier = m .at; later = n .at }))
+    (λ k. inr (record { first = n .step; second = m .step; made = subst (MadeBefore (n .step) (m .step)) (sym (m .is)) k; earlier = n .at; later = m .at }))
+    apart))
+    (two-places (m .step) (n .step) (m .later) (m .earlier) (n .later) (n .earlier) (sym (m .is) ∙ n .is))
+
+-- ---- a name's number: how many names stand before it in the list
+abbrev rank : Claim → List Claim → ℕ
+rank c cs = before (sameName c) cs
+
+pub own-name : (c : Claim) → sameName c c ≡ true
+own-name c = rw (eq-eqb (c .tenant) (c .tenant) refl, eq-eqb (c .serial) (c .serial) refl)
+
+name-sym : (a b : Claim) → sameName a b ≡ sameName b a
+name-sym a b = rw (eqb-sym (a .tenant) (b .tenant), eqb-sym (a .serial) (b .serial))
+
+-- an element in front has number 0, and puts each other name one further
+rank-first : (c : Claim) (cs : List Claim) → rank c (c ∷ cs) ≡ 0
+unfolding before
+rank-first c cs = rw (own-name c)
+
+rank-next : (a c : Claim) (cs : List Claim) → sameName c a ≡ false → rank a (c ∷ cs) ≡ suc (rank a cs)
+unfolding before
+rank-next a c cs h = rw (name-sym a c, h)
+
+rank-ahead : (b c : Claim) (cs : List Claim) → sameName c b ≡ false → rank c (c ∷ cs) < rank b (c ∷ cs)
+rank-ahead b c cs k = omega (arith, rank-first c cs, rank-next b c cs k)
+
+rank-behind : (a b c : Claim) (cs : List Claim) → sameName c a ≡ false → sameName c b ≡ false → rank a cs < rank b cs → rank a (c ∷ cs) < rank b (c ∷ cs)
+rank-behind a b c cs ka kb lt = omega (arith, rank-next a c cs ka, rank-next b c cs kb)
+
+ranked : {cs : List Claim} → InOrder (λ a b. sameName a b ≡ false) cs → InOrder (λ a b. rank a cs < rank b cs) cs
+ranked InOrder.none = InOrder.none
+ranked (InOrder.also {x = c} {xs = cs} ks o) = InOrder.also
+    (each-map (λ b k. rank-ahead b c cs k) ks)
+    (order-both ks (ranked o) (λ a b ka kb lt. rank-behind a b c cs ka kb lt))
+
+-- ---- the order of admission is total
+pub total : (steps : List Step) → NamesDiffer steps → TotalOrder steps
+total steps names = record {
+  same = λ a b m n h. ⊎-elim (λ e. e) (λ apart. absurd (false≢true (sym (differ a b apart) ∙ h))) (same-or-turn m n);
+  either = λ a b m n h. ⊎-elim (λ e. absurd (false≢true (sym h ∙ ap (sameName a) (sym e) ∙ own-name a))) (λ apart. apart) (same-or-turn m n);
+  one-way = λ a b i k. omega (arith, lower i, lower k);
+  through = λ a b c i k. ⊎-elim
+      (λ (e : a ≡ c). let lt : rank a cs < rank c cs = omega (arith, lower i, lower k) in absurd (omega (arith, lt, ap (λ (x : Claim). rank x cs) e)))
+      (λ apart. ⊎-elim (λ one. one) (λ back. absurd (omega (arith, lower i, lower k, lower back))) apart)
+      (same-or-turn (first-in i) (second-in k));
+}
+  where
+    cs : List Claim
+    cs = admissions steps
+
+    lower : {a b : Claim} → InTurn a b steps → rank a cs < rank b cs
+    lower i = two-of i (ranked names)
+
+    differ : (a b : Claim) → InTurn a b steps ⊎ InTurn b a steps → sameName a b ≡ false
+    differ a b apart = ⊎-elim (λ i. two-of i names) (λ i. name-sym a b ∙ two-of i names) apart
