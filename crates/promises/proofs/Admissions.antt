@@ -1,26 +1,25 @@
 -- Whom a run admitted, told by its steps and as a list: the two say the same. A name's number in the list is its own, so the order
 -- of admission is total.
-use Prim.Native.Nat.{ℕ, suc, _+_, _<_}
+use Prim.Native.Nat.{ℕ, suc, _<_}
 use mathlib.Core.Path.{_≡_, refl, sym, ap, subst, _∙_}
-use mathlib.Core.Bool.{Bool, true, false, _&&_, false≢true}
+use mathlib.Core.Bool.{Bool, true, false, false≢true}
 use mathlib.Core.List.{List, [], _∷_, _++_, append-assoc}
 use mathlib.Core.Logic.{_⊎_, inl, inr, ⊎-elim}
 use native.Mathlib.Omega.{arith}
 use lib.Dec.{eqb}
 use borrow.Author.Tests.{eq-eqb}
-use Rattle.rules.specs.declared.Answer.the-variants.{Refused}
 use Rattle.rules.specs.Lists.{before}
 use Rattle.rules.specs.Request.{Request, reduced}
 use Rattle.rules.specs.Table.{Table}
 use Rattle.rules.specs.Prices.{Prices}
 use Rattle.rules.specs.Refusals.{firstOf, beginRows}
-use Rattle.rules.specs.Calls.{asked, begun, beginOf}
+use Rattle.rules.specs.Calls.{asked, beginOf}
 use Rattle.rules.specs.Said.{said}
 use Rattle.rules.specs.Sound.{Each, InOrder}
 use Rattle.rules.specs.Runs.{Call, Step, step}
 use Rattle.rules.specs.Runs.Call.{Begin, Finish, Recheck, Scan, Open, Grant, Pick, Deliver}
 use Rattle.rules.proofs.Tests.{eqb-sym}
-use Rattle.rules.proofs.Order.{each-map, each-both, order-both}
+use Rattle.rules.proofs.Order.{each-map, order-both}
 use Rattle.rules.proofs.Clashing.{begun-said}
 use Rattle.promises.specs.Names.{Claim, admittedBy, admissions, sameName, NamesDiffer, AdmittedAt, MadeBefore}
 use Rattle.promises.specs.Order.{AdmittedIn, InTurn, TotalOrder}

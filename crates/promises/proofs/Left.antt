@@ -1,6 +1,6 @@
 -- The queue is what is left of the admissions, in their order: whoever joins was admitted, whoever leaves is gone, and nobody
 -- changes name or lists.
-use Prim.Native.Nat.{ℕ, zero, suc, _+_}
+use Prim.Native.Nat.{ℕ, zero, suc}
 use mathlib.Core.Path.{_≡_, refl, sym, subst, _∙_}
 use mathlib.Core.List.{List, [], _∷_, _++_, append-nil}
 use native.Mathlib.Numerals.{add-one}

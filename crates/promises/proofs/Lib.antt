@@ -11,6 +11,7 @@ pub mod Names
 pub mod Admissions
 pub mod Left
 pub mod Points
+pub mod Turns
 pub mod Order
 pub mod Sales
 pub mod Reports

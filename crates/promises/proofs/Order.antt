@@ -1,160 +1,29 @@
--- Promises 15 to 17. The queue stands in the order of admission, and in a sound table nobody that has started conflicts with one
+-- Promises 15 and 16. The queue stands in the order of admission, and in a sound table nobody that has started conflicts with one
 -- ahead. So where the later of two that conflict has started, the earlier is not in the queue; it was there, since it was admitted,
--- and so it has left. What has left stays away, and no call both takes one out and starts another.
-use Prim.Native.Nat.{ℕ, zero, suc, _+_, _≤_, _<_}
+-- and so it has left. From there on it is away, so it started before.
+use Prim.Native.Nat.{ℕ, _≤_, _<_}
 use mathlib.Core.Path.{_≡_, refl, sym, ap, subst, _∙_}
-use mathlib.Core.Bool.{Bool, true, false, _&&_, _||_, not, false≢true}
-use mathlib.Core.List.{List, [], _∷_, _++_, append-nil}
+use mathlib.Core.Bool.{Bool, true, false, _||_, not, false≢true}
+use mathlib.Core.List.{List, [], _∷_, _++_}
 use mathlib.Core.Logic.{_⊎_, inl, inr, ⊎-elim}
-use native.Mathlib.Omega.{arith}
-use lib.ListN.{length, getD, set}
+use lib.ListN.{length}
 use borrow.Author.Tests.{not-true}
 use Rattle.rules.specs.Lists.{some}
-use Rattle.rules.specs.Request.{Request, nobody, conflict, isNamed, isBlocked}
+use Rattle.rules.specs.Request.{Request, conflict, isBlocked}
 use Rattle.rules.specs.Table.{Table}
 use Rattle.rules.specs.Prices.{Prices}
-use Rattle.rules.specs.Calls.{withoutEntry, openOf}
-use Rattle.rules.specs.Sound.{Each, InOrder, SoundAny, ClearOf}
-use Rattle.rules.specs.Runs.{Call, Step, Run, step, isOpen}
+use Rattle.rules.specs.Sound.{Each, InOrder, ClearOf}
+use Rattle.rules.specs.Runs.{Call, Step, Run, step}
 use Rattle.rules.proofs.Tests.{both, either, or-true, lt-or-ge}
-use Rattle.rules.proofs.Lists.{some-append}
-use Rattle.rules.proofs.Order.{each-map, each-both, each-append, each-parts, each-first, each-none, each-without, order-last, order-both}
+use Rattle.rules.proofs.Order.{each-map, each-both, order-pair, order-both}
 use Rattle.promises.specs.Fuel.{reached}
-use Rattle.promises.specs.Names.{Claim, claimOf, admittedBy, admissions, isQueued, AdmittedAt, HasLeft}
-use Rattle.promises.specs.Order.{pointsFrom, points, undone, AdmittedIn, InTurn, clash, hasStarted, starts, Order, StaysAway, RunsFirst, RunInOrder, TotalOrder, AdmissionTotal, QueueOrder}
-use Rattle.promises.proofs.Runs.{made}
-use Rattle.promises.proofs.Calls.{open-empty}
-use Rattle.promises.proofs.Changes.{Change, changed}
-use Rattle.promises.proofs.Names.{Book, book-opens, book-keeps, left-given, change-away, none-some, found-in, order-each, own-names}
-use Rattle.promises.proofs.Admissions.{one-of, made-admits, admitted-on, turn-on, turn-next, first-in, second-in, own-name, total}
-use Rattle.promises.proofs.Left.{Left, left-each, left-order, change-left}
-use Rattle.promises.proofs.Points.{at, any-point, now, steps-by-then, since-all, no-later}
-
--- tests on a queue, by a request's name
-abbrev names : Claim → Request → Bool
-names c e = isNamed (c .tenant) (c .serial) e
-
-abbrev startedAs : Claim → Request → Bool
-startedAs c e = names c e && not (isBlocked (e .mode))
-
-abbrev isIn : Claim → Table → Bool
-isIn c t = some (names c) (t .queue)
-
-abbrev wasIn : Claim → List Step → Bool
-wasIn c steps = some (λ s. isIn c (s .met)) steps
-
-abbrev started : Claim → Table → Bool
-started c t = some (startedAs c) (t .queue)
-
-never : {A : Type 0} {b : Bool} → b ≡ false → b ≡ true → A
-never f t = absurd (false≢true (sym f ∙ t))
-
--- ---- what holds at every point
--- the call by which one starts takes nobody out
-abbrev Steady : List Request → List Request → Type 0
-Steady q next = (a b : Claim) → some (startedAs b) q ≡ false → some (startedAs b) next ≡ true → some (names a) next ≡ false → some (names a) q ≡ false
-
-abbrev Away : ℕ → ℕ → Run → Run → Type 0
-Away who serial later earlier = HasLeft who serial earlier → HasLeft who serial later
-
-record Kept (t : Table) (steps : List Step) : Type 0 where
-  book : Book t steps
-  left : Left (t .queue) (admissions steps)
-  admitted : Each (λ c. AdmittedIn c steps) (admissions steps)
-  turns : InOrder (λ a b. InTurn a b steps) (admissions steps)
-  -- whom it admitted is in the queue, or was there at an earlier point
-  seen : Each (λ c. (isIn c t || wasIn c steps) ≡ true) (admissions steps)
-  steady : Steady (undone t steps .table .queue) (t .queue)
-  away : (who serial : ℕ) → InOrder (Away who serial) (pointsFrom t steps)
-
--- ---- what a change of the queue does
--- who is admitted comes after all that were
-change-turns : {t : Table} {added : List Claim} {q : List Request} (cs : List Claim) (s : Step) (steps : List Step) → Change t added q → Each (AdmittedAt s) added → Each (λ c. AdmittedIn c steps) cs → InOrder (λ a b. InTurn a b (s ∷ steps)) cs → InOrder (λ a b. InTurn a b (s ∷ steps)) (cs ++ added)
-change-turns cs s steps Change.same new old h = rw (append-nil cs) h
-change-turns cs s steps (Change.joins e k) new old h = order-last h (each-map (λ a m. turn-next m (each-first new)) old)
-change-turns cs s steps (Change.leaves at) new old h = rw (append-nil cs) h
-change-turns cs s steps (Change.changes at e k) new old h = rw (append-nil cs) h
-
--- and is in the queue then
-change-seen : {t : Table} {added : List Claim} {q : List Request} → Change t added q → Each (λ c. some (names c) q ≡ true) added
-unfolding some
-change-seen Change.same = Each.none
-change-seen {t} (Change.joins e k) = Each.also (some-append (names (claimOf e)) (t .queue) (e ∷ []) ∙ rw (own-name (claimOf e)) (or-true (some (names (claimOf e)) (t .queue)))) Each.none
-change-seen (Change.leaves at) = Each.none
-change-seen (Change.changes at e k) = Each.none
-
--- an element is put that the test tells as it told the old one
-some-set : (f : Request → Bool) (q : List Request) (at : ℕ) (e : Request) → f e ≡ f (getD q at nobody) → some f (set q at e) ≡ some f q
-unfolding some
-some-set f [] at e k = refl
-some-set f (x ∷ q) zero e k = ap (λ (b : Bool). b || some f q) k
-some-set f (x ∷ q) (suc at) e k = ap (λ (b : Bool). f x || b) (some-set f q at e k)
-
-some-first : (f : Request → Bool) (q more : List Request) → some f (q ++ more) ≡ false → some f q ≡ false
-some-first f q more h = none-some f (each-parts q (each-none f (q ++ more) h) .0)
-
-some-without : (f : Request → Bool) (q : List Request) (at : ℕ) → some f q ≡ false → some f (withoutEntry at q) ≡ false
-some-without f q at h = none-some f (each-without at (each-none f q h))
-
--- nobody is taken out by a call that changes or adds one; and none starts by a call that takes one out
-change-steady : {t : Table} {added : List Claim} {q : List Request} → Change t added q → Steady (t .queue) q
-change-steady Change.same a b before after gone = gone
-change-steady {t} (Change.joins e k) a b before after gone = some-first (names a) (t .queue) (e ∷ []) gone
-change-steady {t} (Change.leaves at) a b before after gone = never (some-without (startedAs b) (t .queue) at before) after
-change-steady {t} (Change.changes at e k) a b before after gone =
-    sym (some-set (names a) (t .queue) at e (ap (λ (c : Claim). names a (record { tenant = c .tenant; serial = c .serial; mode = nobody .mode; awaited = 0; due = 0; reads = []; writes = [] })) k)) ∙ gone
-
--- what has left does not come back by it
-left-on : {t : Table} {steps : List Step} (s : Step) (u : Table) {added : List Claim} → s .met ≡ t → Book t steps → Change t added (u .queue) → (who serial : ℕ) → HasLeft who serial (at t steps) → HasLeft who serial (at u (s ∷ steps))
-unfolding some
-left-on {t} {steps} s u met b ch who serial h = record {
-  was = ap (λ (x : Bool). isQueued who serial (s .met) || x) (h .was) ∙ or-true (isQueued who serial (s .met));
-  gone = none-some (isNamed who serial) (change-away who serial t _ _ ch (left-given b who serial (h .was)) (each-none (isNamed who serial) (t .queue) (h .gone)));
-}
-
-kept-opens : (shares : List ℕ) → Kept (openOf shares .table) []
-unfolding admissions pointsFrom
-kept-opens shares = record {
-  book = book-opens shares;
-  left = rw (open-empty shares) Left.none;
-  admitted = Each.none;
-  turns = InOrder.none;
-  seen = Each.none;
-  steady = λ a b before after gone. gone;
-  away = λ who serial. InOrder.also Each.none InOrder.none;
-}
-
-module _ (p : Prices) where
-  kept-on : (t : Table) (steps : List Step) (c : Call) → SoundAny t → isOpen c ≡ false → Kept t steps → Kept (step p t c .table) (made p t c ∷ steps)
-  unfolding admissions pointsFrom some
-  kept-on t steps c s shut k =
-      let m = made p t c in
-      let u = step p t c .table in
-      let cs = admissions steps in
-      let ch = changed p t c shut in
-      let new = made-admits p t c in
-      let old-turns = order-each (λ a b i. turn-on (m ∷ []) i) (k .turns) in
-      record {
-        book = book-keeps p t steps c s shut (k .book);
-        left = change-left cs ch (k .left);
-        admitted = each-append (each-map (λ x h. admitted-on (m ∷ []) h) (k .admitted)) (each-map (λ x h. record { step = m; later = []; earlier = steps; is = refl; at = h }) new);
-        turns = change-turns cs m steps ch new (k .admitted) old-turns;
-        seen = each-append
-            (each-map (λ (x : Claim) (h : (isIn x t || wasIn x steps) ≡ true). ap (λ (b : Bool). isIn x u || b) h ∙ or-true (isIn x u)) (k .seen))
-            (each-map (λ (x : Claim) (h : isIn x u ≡ true). ap (λ (b : Bool). b || wasIn x (m ∷ steps)) h) (change-seen ch));
-        steady = change-steady ch;
-        away = λ who serial. let old = k .away who serial in InOrder.also (each-map (λ q f. λ h. left-on m u refl (k .book) ch who serial (f h)) (since-all (λ q h. h) t steps old)) old;
-      }
-
-  kept : (shares : List ℕ) (calls : List Call) → Each (λ q. Kept (q .table) (q .steps)) (points (reached p shares calls))
-  kept = any-point p Kept kept-opens kept-on
-
--- ---- 17 The order of admission, and of the queue
-pub admission-total : (p : Prices) → AdmissionTotal p
-admission-total p shares calls = total (reached p shares calls .steps) (own-names p shares calls)
-
-pub queue-order : (p : Prices) → QueueOrder p
-queue-order p shares calls = each-map (λ q k. record { admitted = left-each (k .left) (k .admitted); ahead = left-order (k .left) (k .turns) }) (kept p shares calls)
+use Rattle.promises.specs.Names.{Claim, claimOf, AdmittedAt}
+use Rattle.promises.specs.Order.{points, undone, AdmittedIn, InTurn, clash, starts, Order, StaysAway, StartsAfter, RunInOrder, TotalOrder}
+use Rattle.promises.proofs.Names.{found-in}
+use Rattle.promises.proofs.Admissions.{one-of, admitted-on, turn-on, turn-next, first-in, second-in}
+use Rattle.promises.proofs.Left.{left-each, left-order}
+use Rattle.promises.proofs.Points.{runAt, now, steps-by-then, no-later}
+use Rattle.promises.proofs.Turns.{names, startedAs, isIn, started, Gone, never, Steady, Away, Kept, kept, admission-total}
 
 -- ---- 15 The order
 -- no element passes both tests, and no two pass one each, either way about: so some passes the one or some the other, not both
@@ -165,10 +34,6 @@ not-both f g (Each.also {x = x} {xs = xs} p ps) (InOrder.also r o) h k = ⊎-eli
     (λ (fx : f x ≡ true). ⊎-elim (λ (gx : g x ≡ true). p fx gx) (λ (gs : some g xs ≡ true). let w = found-in g r gs in w .2 .0 fx (w .1)) (either (g x) (some g xs) k))
     (λ (fs : some f xs ≡ true). ⊎-elim (λ (gx : g x ≡ true). let w = found-in f r fs in w .2 .1 gx (w .1)) (λ (gs : some g xs ≡ true). not-both f g ps o fs gs) (either (g x) (some g xs) k))
     (either (f x) (some f xs) h)
-
-order-pair : {A : Type 0} {R S : A → A → Type 0} {xs : List A} → InOrder R xs → InOrder S xs → InOrder (λ x y. R x y × S x y) xs
-order-pair InOrder.none InOrder.none = InOrder.none
-order-pair (InOrder.also k o) (InOrder.also l q) = InOrder.also (each-both k l (λ y r s. (r, s))) (order-pair o q)
 
 -- who was admitted by the end was admitted by then, or after all who were
 within : {a : Claim} (s : Step) (since then later earlier : List Step) → since ++ then ≡ later ++ s ∷ earlier → AdmittedAt s a → AdmittedIn a then ⊎ ((b : Claim) → AdmittedIn b then → InTurn b a (since ++ then))
@@ -234,7 +99,7 @@ module _ {steps : List Step} (order : TotalOrder steps) {a b : Claim} (i : InTur
       let m = first-in i in
       ⊎-elim (λ n. n) (λ f. absurd (back (subst (InTurn b a) (sym all) (f b later)))) (within (m .step) since then (m .later) (m .earlier) (sym all ∙ m .is) (m .at))
 
-  has-left : started b t ≡ true → HasLeft (a .tenant) (a .serial) (at t then)
+  has-left : started b t ≡ true → Gone a (runAt t then)
   has-left h =
       let gone = absent h in
       record { was = rw gone at (one-of (by-then h) (k .seen)); gone = gone }
@@ -261,26 +126,33 @@ started-in c (e ∷ q) h = ⊎-elim
     (either (startedAs c e) (some (startedAs c) q) h)
 
 -- it had left before the call by which the other started
-left-before : (a b : Claim) (t : Table) (steps : List Step) → Steady (undone t steps .table .queue) (t .queue) → HasLeft (a .tenant) (a .serial) (at t steps) → started b (undone t steps .table) ≡ false → started b t ≡ true → HasLeft (a .tenant) (a .serial) (undone t steps)
+left-before : (a b : Claim) (t : Table) (steps : List Step) → Steady (undone t steps .table .queue) (t .queue) → Gone a (runAt t steps) → started b (undone t steps .table) ≡ false → started b t ≡ true → Gone a (undone t steps)
 unfolding some
 left-before a b t [] steady left idle runs = left
 left-before a b t (s ∷ steps) steady left idle runs =
     let gone : isIn a (s .met) ≡ false = steady a b idle runs (left .gone) in
     record { was = rw gone at (left .was); gone = gone }
 
-runs-first : (a b : Claim) (x y : Run) → Kept (y .table) (y .steps) → (started b (y .table) ≡ true → HasLeft (a .tenant) (a .serial) y) → (length (y .steps) ≤ length (x .steps) → Away (a .tenant) (a .serial) x y) → starts (a .tenant) (a .serial) x ≡ true → starts (b .tenant) (b .serial) y ≡ true → RunsFirst a x y
-runs-first a b x y k has-left away at-x at-y =
-    let runs-a = both (started a (x .table)) (not (started a (undone (x .table) (x .steps) .table))) at-x in
-    let runs-b = both (started b (y .table)) (not (started b (undone (y .table) (y .steps) .table))) at-y in
-    let left = has-left (runs-b .0) in
-    record {
-      first = ⊎-elim (λ (lt : length (x .steps) < length (y .steps)). lt) (λ (ge : length (y .steps) ≤ length (x .steps)). never (away ge left .gone) (started-in a (x .table .queue) (runs-a .0))) (lt-or-ge (length (x .steps)) (length (y .steps)));
-      left = left-before a b (y .table) (y .steps) (k .steady) left (not-true (started b (undone (y .table) (y .steps) .table)) (runs-b .1)) (runs-b .0);
-    }
+module _ (p : Prices) (shares : List ℕ) (calls : List Call) (a b : Claim) where
+  abbrev whole : Run
+  whole = reached p shares calls
+
+  starts-after : (y : Run) → Kept (y .table) (y .steps) → (started b (y .table) ≡ true → Gone a y) → Each (λ x. length (y .steps) ≤ length (x .steps) → Away (a .tenant) (a .serial) x y) (points whole) → starts (b .tenant) (b .serial) y ≡ true → StartsAfter a whole y
+  starts-after y k gone away now-b =
+      let idle : Table = undone (y .table) (y .steps) .table in
+      let runs = both (started b (y .table)) (not (started b idle)) now-b in
+      let left = gone (runs .0) in
+      record { left = left-before a b (y .table) (y .steps) (k .steady) left (not-true (started b idle) (runs .1)) (runs .0); first = each-map (first left) away }
+    where
+      -- from there on it is not in the queue
+      first : Gone a y → (x : Run) → (length (y .steps) ≤ length (x .steps) → Away (a .tenant) (a .serial) x y) → starts (a .tenant) (a .serial) x ≡ true → length (x .steps) < length (y .steps)
+      first left x away now-a =
+          let runs = both (started a (x .table)) (not (started a (undone (x .table) (x .steps) .table))) now-a in
+          ⊎-elim (λ (lt : length (x .steps) < length (y .steps)). lt) (λ (ge : length (y .steps) ≤ length (x .steps)). never (away ge left .gone) (started-in a (x .table .queue) (runs .0))) (lt-or-ge (length (x .steps)) (length (y .steps)))
 
 pub run-in-order : (p : Prices) → RunInOrder p
 run-in-order p shares calls a b i clashes =
     let r = reached p shares calls in
-    let left : Each (λ y. Kept (y .table) (y .steps) × (started b (y .table) ≡ true → HasLeft (a .tenant) (a .serial) y)) (points r) = each-both (kept p shares calls) (order p shares calls a b i clashes) (λ y k h. (k, h)) in
     let away = no-later (λ q h. h) (r .table) (r .steps) (stays-away p shares calls (a .tenant) (a .serial)) in
-    each-map (λ x ws. each-both left ws (λ y kh w. runs-first a b x y (kh .0) (kh .1) w)) away
+    let known : Each (λ y. Kept (y .table) (y .steps) × (started b (y .table) ≡ true → Gone a y)) (points r) = each-both (kept p shares calls) (order p shares calls a b i clashes) (λ y k h. (k, h)) in
+    each-both known away (λ y k w. starts-after p shares calls a b y (k .0) (k .1) w)

@@ -1,8 +1,7 @@
 -- The other side of promise 15. The runs are computed: by a wrong rule 3.1 has started while 2.1 is in the queue. That no calls do so by
 -- the law book's is the promise itself, of the run that they go on to.
-use Prim.Native.Nat.{ℕ}
 use mathlib.Core.Path.{_≡_, refl, sym, ap, subst, _∙_}
-use mathlib.Core.Bool.{true, false, not, true≢false}
+use mathlib.Core.Bool.{true, not, true≢false}
 use mathlib.Core.List.{List, [], _∷_, _++_, append-assoc}
 use borrow.Author.Tests.{not-true}
 use Rattle.rules.specs.Lists.{every, some, total, countIf, before, keepIf}
@@ -20,7 +19,7 @@ use Rattle.rules.proofs.Tests.{both}
 use Rattle.rules.proofs.Order.{each-first}
 use Rattle.promises.specs.Fuel.{reached}
 use Rattle.promises.specs.Names.{Claim}
-use Rattle.promises.specs.Order.{pointsFrom, InTurn, KeepsOrder}
+use Rattle.promises.specs.Order.{pointsFrom, InTurn}
 use Rattle.promises.specs.Hung.{fourEach}
 use Rattle.promises.specs.Overtaken.{opening, second, third, two, three, walkBy, Overtaken}
 use Rattle.promises.proofs.Runs.{made}

@@ -1,6 +1,6 @@
 -- The points of a run: what every call keeps holds at each of them; each has the steps that were made by then, and fewer than the
 -- later ones.
-use Prim.Native.Nat.{ℕ, suc, _≤_, _<_}
+use Prim.Native.Nat.{ℕ, _≤_}
 use mathlib.Core.Path.{_≡_, refl, ap}
 use mathlib.Core.Bool.{false}
 use mathlib.Core.List.{List, [], _∷_, _++_}
@@ -16,11 +16,11 @@ use Rattle.promises.specs.Fuel.{reached}
 use Rattle.promises.specs.Order.{pointsFrom, points}
 use Rattle.promises.proofs.Runs.{made, any-run}
 
-abbrev pub at : Table → List Step → Run
-at t steps = record { table = t; steps = steps }
+abbrev pub runAt : Table → List Step → Run
+runAt t steps = record { table = t; steps = steps }
 
 -- now is the first of them
-pub now : {P : Run → Type 0} (t : Table) (steps : List Step) → Each P (pointsFrom t steps) → P (at t steps)
+pub now : {P : Run → Type 0} (t : Table) (steps : List Step) → Each P (pointsFrom t steps) → P (runAt t steps)
 unfolding pointsFrom
 now t [] (Each.also h hs) = h
 now t (s ∷ steps) (Each.also h hs) = h
@@ -49,20 +49,20 @@ steps-by-then t (s ∷ steps) = Each.also ([], refl) (each-map (λ q w. (s ∷ w
 
 no-more : (t : Table) (steps : List Step) → Each (λ q. length (q .steps) ≤ length steps) (pointsFrom t steps)
 unfolding pointsFrom
-no-more t [] = Each.also {x = at t []} (omega arith) Each.none
-no-more t (s ∷ steps) = Each.also {x = at t (s ∷ steps)} (omega arith) (each-map (λ q (le : length (q .steps) ≤ length steps). omega arith) (no-more (s .met) steps))
+no-more t [] = Each.also {x = runAt t []} (omega arith) Each.none
+no-more t (s ∷ steps) = Each.also {x = runAt t (s ∷ steps)} (omega arith) (each-map (λ q (le : length (q .steps) ≤ length steps). omega arith) (no-more (s .met) steps))
 
 module _ {R : Run → Run → Type 0} (same : (q : Run) → R q q) where
   -- what each later point is to each earlier one, now is to all
-  pub since-all : (t : Table) (steps : List Step) → InOrder R (pointsFrom t steps) → Each (R (at t steps)) (pointsFrom t steps)
+  pub since-all : (t : Table) (steps : List Step) → InOrder R (pointsFrom t steps) → Each (R (runAt t steps)) (pointsFrom t steps)
   unfolding pointsFrom
-  since-all t [] o = Each.also (same (at t [])) Each.none
-  since-all t (s ∷ steps) (InOrder.also k o) = Each.also (same (at t (s ∷ steps))) k
+  since-all t [] o = Each.also (same (runAt t [])) Each.none
+  since-all t (s ∷ steps) (InOrder.also k o) = Each.also (same (runAt t (s ∷ steps))) k
 
-  -- and a point is to each at which no more calls had been made
-  pub no-later : (t : Table) (steps : List Step) → InOrder R (pointsFrom t steps) → Each (λ x. Each (λ y. length (y .steps) ≤ length (x .steps) → R x y) (pointsFrom t steps)) (pointsFrom t steps)
+  -- and every point is to those at which no more calls had been made
+  pub no-later : (t : Table) (steps : List Step) → InOrder R (pointsFrom t steps) → Each (λ y. Each (λ x. length (y .steps) ≤ length (x .steps) → R x y) (pointsFrom t steps)) (pointsFrom t steps)
   unfolding pointsFrom
-  no-later t [] o = Each.also (Each.also (λ le. same (at t [])) Each.none) Each.none
+  no-later t [] o = Each.also (Each.also (λ le. same (runAt t [])) Each.none) Each.none
   no-later t (s ∷ steps) (InOrder.also k o) = Each.also
-      (Each.also (λ le. same (at t (s ∷ steps))) (each-map (λ y r. λ le. r) k))
-      (each-both (no-more (s .met) steps) (no-later (s .met) steps o) (λ x (le : length (x .steps) ≤ length steps) inner. Each.also (λ (ge : length (s ∷ steps) ≤ length (x .steps)). absurd (omega arith)) inner))
+      (Each.also (λ le. same (runAt t (s ∷ steps))) (each-map (λ x (le : length (x .steps) ≤ length steps). λ (ge : length (s ∷ steps) ≤ length (x .steps)). absurd (omega arith)) (no-more (s .met) steps)))
+      (each-both k (no-later (s .met) steps o) (λ y r inner. Each.also (λ le. r) inner))

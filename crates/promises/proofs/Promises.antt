@@ -18,7 +18,8 @@ use Rattle.promises.proofs.Names.{own-names, two-names, never-back}
 use Rattle.promises.proofs.Drains.{never-hangs, drains, always-drains}
 use Rattle.promises.proofs.Sales.{sellers-conflict, second-waits}
 use Rattle.promises.proofs.Reports.{reports, begin-alone}
-use Rattle.promises.proofs.Order.{order, stays-away, run-in-order, admission-total, queue-order}
+use Rattle.promises.proofs.Turns.{admission-total, queue-order}
+use Rattle.promises.proofs.Order.{order, stays-away, run-in-order}
 
 pub promises : {p : Prices} → Fair p → Promises p
 promises {p} f = record {

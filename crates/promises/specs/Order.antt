@@ -13,7 +13,7 @@ use Rattle.rules.specs.Prices.{Prices}
 use Rattle.rules.specs.Sound.{Each, InOrder}
 use Rattle.rules.specs.Runs.{Call, Step, Run, from}
 use Rattle.promises.specs.Fuel.{reached}
-use Rattle.promises.specs.Names.{Claim, claimOf, sameName, AdmittedAt, MadeBefore, isQueued, HasLeft}
+use Rattle.promises.specs.Names.{Claim, claimOf, sameName, AdmittedAt, MadeBefore, HasLeft}
 
 -- ---- the points of a run
 -- the run as it was at each of its points, the latest first: now, and before each of its steps. A point has the table of then, and
@@ -88,20 +88,19 @@ StaysAway p =
     (shares : List ℕ) (calls : List Call) →
     LeftForGood (reached p shares calls)
 
--- ---- 16 Conflicting requests run in the order of their admission
--- a starts at the point x and b at the point y: fewer calls had been made at x, and a had left before the call by which b starts
-pub record RunsFirst (a : Claim) (x y : Run) : Type 0 where
-  pub first : length (x .steps) < length (y .steps)
+-- ---- 16 Conflicting requests run in the order of their admission: b starts at the point y of the run
+pub record StartsAfter (a : Claim) (r y : Run) : Type 0 where
+  -- a had left before the call by which b starts
   pub left : HasLeft (a .tenant) (a .serial) (pointBefore y)
+  -- and if a ever started, fewer calls had been made then
+  pub first : Each (λ x. starts (a .tenant) (a .serial) x ≡ true → length (x .steps) < length (y .steps)) (points r)
 
 abbrev pub RunsInTurn : Run → Type 0
 RunsInTurn r =
     (a b : Claim) →
     InTurn a b (r .steps) →
     clash a b ≡ true →
-    Each
-    (λ x. Each (λ y. starts (a .tenant) (a .serial) x ≡ true → starts (b .tenant) (b .serial) y ≡ true → RunsFirst a x y) (points r))
-    (points r)
+    Each (λ y. starts (b .tenant) (b .serial) y ≡ true → StartsAfter a r y) (points r)
 
 abbrev pub RunInOrder : Prices → Type 0
 RunInOrder p =

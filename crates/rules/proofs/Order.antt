@@ -71,6 +71,10 @@ module _ {A : Type 0} where
   each-none f (x ∷ xs) h = let p = neither (f x) (some f xs) h in Each.also (p .0) (each-none f xs (p .1))
 
   -- ---- each two in order
+  pub order-pair : {R S : A → A → Type 0} {xs : List A} → InOrder R xs → InOrder S xs → InOrder (λ x y. R x y × S x y) xs
+  order-pair InOrder.none InOrder.none = InOrder.none
+  order-pair (InOrder.also k o) (InOrder.also l q) = InOrder.also (each-both k l (λ y r s. (r, s))) (order-pair o q)
+
   pub order-both : {P : A → Type 0} {R S : A → A → Type 0} {xs : List A} → Each P xs → InOrder R xs → ((x y : A) → P x → P y → R x y → S x y) → InOrder S xs
   order-both Each.none InOrder.none f = InOrder.none
   order-both (Each.also {x = x} p ps) (InOrder.also k o) f = InOrder.also (each-both ps k (λ y q r. f x y p q r)) (order-both ps o f)
