@@ -1,5 +1,5 @@
--- Whom a run admitted, told by its steps and as a list: the two say the same. A name's number in the list is its own, so the order
--- of admission is total.
+-- Whom a step admits, and whom further steps admit after that. A name's number in the list of admissions is its own, so the order of
+-- admission is total.
 use Prim.Native.Nat.{ℕ, suc, _<_}
 use mathlib.Core.Path.{_≡_, refl, sym, ap, subst, _∙_}
 use mathlib.Core.Bool.{Bool, true, false, false≢true}
@@ -21,22 +21,10 @@ use Rattle.rules.specs.Runs.Call.{Begin, Finish, Recheck, Scan, Open, Grant, Pi
 use Rattle.rules.proofs.Tests.{eqb-sym}
 use Rattle.rules.proofs.Order.{each-map, order-both}
 use Rattle.rules.proofs.Clashing.{begun-said}
-use Rattle.promises.specs.Names.{Claim, admittedBy, admissions, sameName, NamesDiffer, AdmittedAt, MadeBefore}
-use Rattle.promises.specs.Order.{AdmittedIn, InTurn, TotalOrder}
+use Rattle.promises.specs.Names.{Claim, admittedBy, admissions, sameName, NamesDiffer, AdmittedAt, AdmittedIn, InTurn}
+use Rattle.promises.specs.Order.{TotalOrder}
 use Rattle.promises.proofs.Runs.{made}
-use Rattle.promises.proofs.Names.{each-end, each-init, admissions-append, admitted-is, pair-of}
-
--- ---- from the steps to the list
--- what holds of each in the list holds of who was admitted at a step, and so of two
-pub one-of : {P : Claim → Type 0} {c : Claim} {steps : List Step} → AdmittedIn c steps → Each P (admissions steps) → P c
-unfolding admissions
-one-of {P} {c} m h =
-    let place : admissions (m .step ∷ m .earlier) ≡ admissions (m .earlier) ++ c ∷ [] = ap (λ (l : List Claim). admissions (m .earlier) ++ l) (admitted-is (m .step) c (m .at)) in
-    let all = ap admissions (m .is) ∙ admissions-append (m .later) (m .step ∷ m .earlier) ∙ ap (λ (l : List Claim). l ++ admissions (m .later)) place in
-    each-end (admissions (m .earlier)) (each-init (admissions (m .earlier) ++ c ∷ []) (admissions (m .later)) (subst (Each P) all h))
-
-pub two-of : {R : Claim → Claim → Type 0} {a b : Claim} {steps : List Step} → InTurn a b steps → InOrder R (admissions steps) → R a b
-two-of i o = pair-of (i .made) (i .earlier) (i .later) o
+use Rattle.promises.proofs.Names.{admitted-is, two-of}
 
 -- ---- from the list to the steps: whom a step adds, it admitted
 module _ (p : Prices) (t : Table) where
@@ -79,71 +67,41 @@ admitted-on since m = record {
 }
 
 pub turn-on : {a b : Claim} {steps : List Step} (since : List Step) → InTurn a b steps → InTurn a b (since ++ steps)
-turn-on since i = record {
-  first = i .first;
-  second = i .second;
-  made = record {
-    later = since ++ i .made .later;
-    between = i .made .between;
-    earlier = i .made .earlier;
-    is = ap (λ (l : List Step). since ++ l) (i .made .is) ∙ sym (append-assoc since (i .made .later) (i .second ∷ (i .made .between ++ i .first ∷ i .made .earlier)));
-  };
-  earlier = i .earlier;
-  later = i .later;
-}
-
--- the two of a pair were admitted
-pub first-in : {a b : Claim} {steps : List Step} → InTurn a b steps → AdmittedIn a steps
-first-in i = record {
-  step = i .first;
-  later = i .made .later ++ i .second ∷ i .made .between;
-  earlier = i .made .earlier;
-  is = i .made .is ∙ sym (append-assoc (i .made .later) (i .second ∷ i .made .between) (i .first ∷ i .made .earlier));
-  at = i .earlier;
-}
-
-pub second-in : {a b : Claim} {steps : List Step} → InTurn a b steps → AdmittedIn b steps
-second-in i = record {
-  step = i .second;
-  later = i .made .later;
-  earlier = i .made .between ++ i .first ∷ i .made .earlier;
-  is = i .made .is;
-  at = i .later;
-}
+unfolding admitted-on
+turn-on since i = record { second = admitted-on since (i .second); first = i .first }
 
 -- who is admitted by a further step was admitted after all that were before
+pub admitted-next : {c : Claim} (s : Step) (steps : List Step) → AdmittedAt s c → AdmittedIn c (s ∷ steps)
+admitted-next s steps new = record { step = s; later = []; earlier = steps; is = refl; at = new }
+
 pub turn-next : {a b : Claim} {s : Step} {steps : List Step} → AdmittedIn a steps → AdmittedAt s b → InTurn a b (s ∷ steps)
-turn-next {s = s} m at = record {
-  first = m .step;
-  second = s;
-  made = record { later = []; between = m .later; earlier = m .earlier; is = ap (λ (l : List Step). s ∷ l) (m .is) };
-  earlier = m .at;
-  later = at;
-}
+unfolding admitted-next
+turn-next {s = s} {steps} m new = record { second = admitted-next s steps new; first = m }
 
--- ---- two places in a list of steps
-two-places : (s z : Step) (xs ss ys zs : List Step) → xs ++ s ∷ ss ≡ ys ++ z ∷ zs → (s ≡ z) ⊎ (MadeBefore s z (xs ++ s ∷ ss) ⊎ MadeBefore z s (xs ++ s ∷ ss))
-two-places s z [] ss [] zs e = inl cc
-two-places s z [] ss (y ∷ ys) zs e = inr (inr (record { later = []; between = ys; earlier = zs; is = cc }))
-two-places s z (x ∷ xs) ss [] zs e = inr (inl (record { later = []; between = xs; earlier = ss; is = cc }))
-two-places s z (x ∷ xs) ss (y ∷ ys) zs e =
+-- the first of two was admitted in the whole
+pub first-in : {a b : Claim} {steps : List Step} → InTurn a b steps → AdmittedIn a steps
+first-in {a} i =
+    let m = i .second in
+    subst (AdmittedIn a) (sym (m .is)) (admitted-on (m .later) (admitted-on (m .step ∷ []) (i .first)))
+
+-- ---- two requests of a run are one, or were admitted one before the other
+two-places : {a b : Claim} (s z : Step) (xs ss ys zs : List Step) → AdmittedAt s a → AdmittedAt z b → xs ++ s ∷ ss ≡ ys ++ z ∷ zs → (a ≡ b) ⊎ (InTurn a b (xs ++ s ∷ ss) ⊎ InTurn b a (xs ++ s ∷ ss))
+two-places {a} {b} s z [] ss [] zs m n e =
+    let same : s ≡ z = cc in
+    let one : a ∷ [] ≡ b ∷ [] = sym (admitted-is s a m) ∙ ap (λ (s : Step). admittedBy (s .call) (s .outcome .answer)) same ∙ admitted-is z b n in
+    inl cc
+two-places s z [] ss (y ∷ ys) zs m n e = inr (inr (turn-next (record { step = z; later = ys; earlier = zs; is = cc; at = n }) m))
+two-places {a} {b} s z (x ∷ xs) ss [] zs m n e =
+    let same : z ≡ x = cc in
+    inr (inl (turn-next (record { step = s; later = xs; earlier = ss; is = refl; at = m }) (subst (λ (k : Step). AdmittedAt k b) same n)))
+two-places s z (x ∷ xs) ss (y ∷ ys) zs m n e =
     let rest : xs ++ s ∷ ss ≡ ys ++ z ∷ zs = cc in
-    ⊎-elim inl (λ apart. inr (⊎-elim (λ m. inl (on x m)) (λ m. inr (on x m)) apart)) (two-places s z xs ss ys zs rest)
-  where
-    on : (x : Step) {s z : Step} {l : List Step} → MadeBefore s z l → MadeBefore s z (x ∷ l)
-    on x m = record { later = x ∷ m .later; between = m .between; earlier = m .earlier; is = ap (λ (l : List Step). x ∷ l) (m .is) }
+    ⊎-elim inl (λ apart. inr (⊎-elim (λ i. inl (turn-on (x ∷ []) i)) (λ i. inr (turn-on (x ∷ []) i)) apart)) (two-places s z xs ss ys zs m n rest)
 
--- two requests of a run are one, or were admitted one before the other
-pub same-or-turn : {a b : Claim} {steps : List Step} → AdmittedIn a steps → AdmittedIn b steps → (a ≡ b) ⊎ (InTurn a b steps ⊎ InTurn b a steps)
-same-or-turn {a} {b} {steps} m n = ⊎-elim
-    (λ (same : m .step ≡ n .step).
-    let one : a ∷ [] ≡ b ∷ [] = sym (admitted-is (m .step) a (m .at)) ∙ ap (λ (s : Step). admittedBy (s .call) (s .outcome .answer)) same ∙ admitted-is (n .step) b (n .at) in
-    inl cc)
-    (λ apart. inr (⊎-elim
-    (λ k. inl (record { first = m .step; second = n .step; made = subst (MadeBefore (m .step) (n .step)) (sym (m .is)) k; earlier = m .at; later = n .at }))
-    (λ k. inr (record { first = n .step; second = m .step; made = subst (MadeBefore (n .step) (m .step)) (sym (m .is)) k; earlier = n .at; later = m .at }))
-    apart))
-    (two-places (m .step) (n .step) (m .later) (m .earlier) (n .later) (n .earlier) (sym (m .is) ∙ n .is))
+same-or-turn : {a b : Claim} {steps : List Step} → AdmittedIn a steps → AdmittedIn b steps → (a ≡ b) ⊎ (InTurn a b steps ⊎ InTurn b a steps)
+same-or-turn {a} {b} m n =
+    subst (λ (l : List Step). (a ≡ b) ⊎ (InTurn a b l ⊎ InTurn b a l)) (sym (m .is))
+    (two-places (m .step) (n .step) (m .later) (m .earlier) (n .later) (n .earlier) (m .at) (n .at) (sym (m .is) ∙ n .is))
 
 -- ---- a name's number: how many names stand before it in the list
 abbrev rank : Claim → List Claim → ℕ
@@ -185,7 +143,7 @@ total steps names = record {
   through = λ a b c i k. ⊎-elim
       (λ (e : a ≡ c). let lt : rank a cs < rank c cs = omega (arith, lower i, lower k) in absurd (omega (arith, lt, ap (λ (x : Claim). rank x cs) e)))
       (λ apart. ⊎-elim (λ one. one) (λ back. absurd (omega (arith, lower i, lower k, lower back))) apart)
-      (same-or-turn (first-in i) (second-in k));
+      (same-or-turn (first-in i) (k .second));
 }
   where
     cs : List Claim

@@ -20,7 +20,7 @@ use Rattle.rules.proofs.Tests.{both, either}
 use Rattle.rules.proofs.Order.{each-map, each-none, each-without, each-last, order-last}
 use Rattle.rules.proofs.Sound.{step-any, open-sound}
 use Rattle.promises.specs.Fuel.{reached}
-use Rattle.promises.specs.Names.{Claim, answered, admittedBy, admissions, sameName, AdmittedAt, MadeBefore, isQueued, OwnNames, TwoNames, NeverBack}
+use Rattle.promises.specs.Names.{Claim, answered, admittedBy, admissions, sameName, AdmittedAt, AdmittedIn, InTurn, isQueued, OwnNames, TwoNames, NeverBack}
 use Rattle.promises.proofs.Runs.{made, any-run}
 use Rattle.promises.proofs.Changes.{Change, changed, Grown, grown, grown-twice}
 
@@ -102,7 +102,7 @@ own-names p shares calls = order-each differ (book p shares calls .rise)
 
 -- ---- two steps of a run
 -- the first elements; and those before the last stand so to it
-pub each-init : {A : Type 0} {P : A → Type 0} (xs ys : List A) → Each P (xs ++ ys) → Each P xs
+each-init : {A : Type 0} {P : A → Type 0} (xs ys : List A) → Each P (xs ++ ys) → Each P xs
 each-init [] ys h = Each.none
 each-init (x ∷ xs) ys (Each.also p h) = Each.also p (each-init xs ys h)
 
@@ -114,7 +114,7 @@ order-end : {A : Type 0} {R : A → A → Type 0} (xs : List A) {e : A} → InOr
 order-end [] o = Each.none
 order-end (x ∷ xs) (InOrder.also k o) = Each.also (each-end xs k) (order-end xs o)
 
-pub admissions-append : (later steps : List Step) → admissions (later ++ steps) ≡ admissions steps ++ admissions later
+admissions-append : (later steps : List Step) → admissions (later ++ steps) ≡ admissions steps ++ admissions later
 unfolding admissions
 admissions-append [] steps = sym (append-nil (admissions steps))
 admissions-append (s ∷ later) steps =
@@ -125,25 +125,24 @@ admitted-is s c a =
     ap (λ (k : Call). admittedBy k (s .outcome .answer)) (a .call) ∙ ap (λ (values : List ℕ). answered (record { reads = a .reads; writes = c .writes }) values) (a .answer) ∙
     ap (λ (reads : List ℕ). record { tenant = c .tenant; serial = c .serial; reads = reads; writes = c .writes } ∷ []) (sym (a .reduced))
 
--- where the two stand in the list of admissions
-pair-at : {a b : Step} {x y : Claim} {steps : List Step} (m : MadeBefore a b steps) → AdmittedAt a x → AdmittedAt b y → admissions steps ≡ (((admissions (m .earlier) ++ x ∷ []) ++ admissions (m .between)) ++ y ∷ []) ++ admissions (m .later)
+-- where one stands in the list of admissions
+place-of : {c : Claim} {steps : List Step} (m : AdmittedIn c steps) → admissions steps ≡ (admissions (m .earlier) ++ c ∷ []) ++ admissions (m .later)
 unfolding admissions
-pair-at {a} {b} {x} {y} m ax by =
-    let inner : admissions (m .between ++ a ∷ m .earlier) ≡ (admissions (m .earlier) ++ x ∷ []) ++ admissions (m .between) =
-    admissions-append (m .between) (a ∷ m .earlier) ∙ ap (λ (l : List Claim). (admissions (m .earlier) ++ l) ++ admissions (m .between)) (admitted-is a x ax) in
-    ap admissions (m .is) ∙ admissions-append (m .later) (b ∷ (m .between ++ a ∷ m .earlier)) ∙
-    ap (λ (l : List Claim). (l ++ admittedBy (b .call) (b .outcome .answer)) ++ admissions (m .later)) inner ∙
-    ap (λ (l : List Claim). (((admissions (m .earlier) ++ x ∷ []) ++ admissions (m .between)) ++ l) ++ admissions (m .later)) (admitted-is b y by)
+place-of {c} m =
+    ap admissions (m .is) ∙ admissions-append (m .later) (m .step ∷ m .earlier) ∙
+    ap (λ (l : List Claim). (admissions (m .earlier) ++ l) ++ admissions (m .later)) (admitted-is (m .step) c (m .at))
 
-pub pair-of : {R : Claim → Claim → Type 0} {a b : Step} {x y : Claim} {steps : List Step} → MadeBefore a b steps → AdmittedAt a x → AdmittedAt b y → InOrder R (admissions steps) → R x y
-pair-of {R} {a} {b} {x} {y} m ax by o =
-    let front = (admissions (m .earlier) ++ x ∷ []) ++ admissions (m .between) in
-    let k : InOrder R ((front ++ y ∷ []) ++ admissions (m .later)) = subst (InOrder R) (pair-at m ax by) o in
-    let to-y : Each (λ c. R c y) front = order-end front (order-init (front ++ y ∷ []) (admissions (m .later)) k) in
-    each-end (admissions (m .earlier)) (each-init (admissions (m .earlier) ++ x ∷ []) (admissions (m .between)) to-y)
+-- what holds of each in the list holds of who was admitted; and of each two, of two
+pub one-of : {P : Claim → Type 0} {c : Claim} {steps : List Step} → AdmittedIn c steps → Each P (admissions steps) → P c
+one-of {P} {c} m h = each-end (admissions (m .earlier)) (each-init (admissions (m .earlier) ++ c ∷ []) (admissions (m .later)) (subst (Each P) (place-of m) h))
+
+pub two-of : {R : Claim → Claim → Type 0} {a b : Claim} {steps : List Step} → InTurn a b steps → InOrder R (admissions steps) → R a b
+two-of {R} {a} {b} i o =
+    let m = i .second in
+    one-of (i .first) (order-end (admissions (m .earlier)) (order-init (admissions (m .earlier) ++ b ∷ []) (admissions (m .later)) (subst (InOrder R) (place-of m) o)))
 
 pub two-names : (p : Prices) → TwoNames p
-two-names p shares calls a b x y m ax by = pair-of m ax by (own-names p shares calls)
+two-names p shares calls a b i = two-of i (own-names p shares calls)
 
 -- ---- a name that has left
 -- the name's tenant and serial

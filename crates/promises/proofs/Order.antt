@@ -17,10 +17,10 @@ use Rattle.rules.specs.Runs.{Call, Step, Run, step}
 use Rattle.rules.proofs.Tests.{both, either, or-true, lt-or-ge}
 use Rattle.rules.proofs.Order.{each-map, each-both, order-pair, order-both}
 use Rattle.promises.specs.Fuel.{reached}
-use Rattle.promises.specs.Names.{Claim, claimOf, AdmittedAt}
-use Rattle.promises.specs.Order.{points, undone, AdmittedIn, InTurn, clash, starts, Order, StaysAway, StartsAfter, RunInOrder, TotalOrder}
-use Rattle.promises.proofs.Names.{found-in}
-use Rattle.promises.proofs.Admissions.{one-of, admitted-on, turn-on, turn-next, first-in, second-in}
+use Rattle.promises.specs.Names.{Claim, claimOf, AdmittedAt, AdmittedIn, InTurn}
+use Rattle.promises.specs.Order.{points, undone, clash, starts, Order, StaysAway, StartsAfter, RunInOrder, TotalOrder}
+use Rattle.promises.proofs.Names.{one-of, found-in}
+use Rattle.promises.proofs.Admissions.{admitted-on, turn-on, turn-next, first-in}
 use Rattle.promises.proofs.Left.{left-each, left-order}
 use Rattle.promises.proofs.Points.{runAt, now, steps-by-then, no-later}
 use Rattle.promises.proofs.Turns.{names, startedAs, isIn, started, Gone, never, Steady, Away, Kept, kept, admission-total}
@@ -59,7 +59,7 @@ module _ {steps : List Step} (order : TotalOrder steps) {a b : Claim} (i : InTur
   Own e = (names a e ≡ true → claimOf e ≡ a) × (names b e ≡ true → claimOf e ≡ b)
 
   owns : Each Own (t .queue)
-  owns = each-both (own a (first-in i)) (own b (second-in i)) (λ e x y. (x, y))
+  owns = each-both (own a (first-in i)) (own b (i .second)) (λ e x y. (x, y))
 
   back : InTurn b a steps → ⊥
   back = order .one-way a b i

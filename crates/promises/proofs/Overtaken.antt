@@ -18,8 +18,8 @@ use Rattle.rules.specs.Runs.{Call, Step, Run, isOpen, after, runOf}
 use Rattle.rules.proofs.Tests.{both}
 use Rattle.rules.proofs.Order.{each-first}
 use Rattle.promises.specs.Fuel.{reached}
-use Rattle.promises.specs.Names.{Claim}
-use Rattle.promises.specs.Order.{pointsFrom, InTurn}
+use Rattle.promises.specs.Names.{Claim, InTurn}
+use Rattle.promises.specs.Order.{pointsFrom}
 use Rattle.promises.specs.Hung.{fourEach}
 use Rattle.promises.specs.Overtaken.{opening, second, third, two, three, walkBy, Overtaken}
 use Rattle.promises.proofs.Runs.{made}
@@ -40,11 +40,8 @@ later = record { tenant = 3; serial = 1; reads = []; writes = 9 ∷ [] }
 in-turn : (o : Outcome) → said (o .answer) .values ≡ 3 ∷ 1 ∷ [] → InTurn earlier later (record { met = two .table; call = third; outcome = o } ∷ two .steps)
 unfolding runOf after openOf openRows firstOf fresh grantOf grantRows beginOf beginRows admitted promoted conflict meets member some onlyRead rising risingPast total countIf keepIf size charge costly
 in-turn o says = record {
-  first = made clause9 (one .table) second;
-  second = record { met = two .table; call = third; outcome = o };
-  made = record { later = []; between = []; earlier = one .steps; is = refl };
-  earlier = record { awaited = 0; reads = []; reduced = refl; call = refl; answer = refl };
-  later = record { awaited = 0; reads = []; reduced = refl; call = refl; answer = says };
+  second = record { step = record { met = two .table; call = third; outcome = o }; later = []; earlier = two .steps; is = refl; at = record { awaited = 0; reads = []; reduced = refl; call = refl; answer = says } };
+  first = record { step = made clause9 (one .table) second; later = []; earlier = one .steps; is = refl; at = record { awaited = 0; reads = []; reduced = refl; call = refl; answer = refl } };
 }
 
 -- calls that open nothing add steps

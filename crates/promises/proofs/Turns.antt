@@ -16,13 +16,13 @@ use Rattle.rules.proofs.Tests.{or-true}
 use Rattle.rules.proofs.Lists.{some-append}
 use Rattle.rules.proofs.Order.{each-map, each-append, each-parts, each-first, each-none, each-without, order-last}
 use Rattle.promises.specs.Fuel.{reached}
-use Rattle.promises.specs.Names.{Claim, claimOf, admissions, sameName, isQueued, AdmittedAt, HasLeft}
-use Rattle.promises.specs.Order.{pointsFrom, points, undone, AdmittedIn, InTurn, AdmissionTotal, QueueOrder}
+use Rattle.promises.specs.Names.{Claim, claimOf, admissions, sameName, isQueued, AdmittedAt, AdmittedIn, InTurn, HasLeft}
+use Rattle.promises.specs.Order.{pointsFrom, points, undone, AdmissionTotal, QueueOrder}
 use Rattle.promises.proofs.Runs.{made}
 use Rattle.promises.proofs.Calls.{open-empty}
 use Rattle.promises.proofs.Changes.{Change, changed}
 use Rattle.promises.proofs.Names.{Book, book-opens, book-keeps, left-given, change-away, none-some, order-each, own-names}
-use Rattle.promises.proofs.Admissions.{made-admits, admitted-on, turn-on, turn-next, own-name, total}
+use Rattle.promises.proofs.Admissions.{made-admits, admitted-on, admitted-next, turn-on, turn-next, own-name, total}
 use Rattle.promises.proofs.Left.{Left, left-each, left-order, change-left}
 use Rattle.promises.proofs.Points.{runAt, any-point, since-all}
 
@@ -138,7 +138,7 @@ module _ (p : Prices) where
       record {
         book = book-keeps p t steps c s shut (k .book);
         left = change-left cs ch (k .left);
-        admitted = each-append (each-map (λ x h. admitted-on (m ∷ []) h) (k .admitted)) (each-map (λ x h. record { step = m; later = []; earlier = steps; is = refl; at = h }) new);
+        admitted = each-append (each-map (λ x h. admitted-on (m ∷ []) h) (k .admitted)) (each-map (λ x h. admitted-next m steps h) new);
         turns = change-turns cs m steps ch new (k .admitted) old-turns;
         seen = each-append
             (each-map (λ (x : Claim) (h : (isIn x t || wasIn x steps) ≡ true). ap (λ (b : Bool). isIn x u || b) h ∙ or-true (isIn x u)) (k .seen))

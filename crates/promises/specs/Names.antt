@@ -66,20 +66,24 @@ pub record AdmittedAt (s : Step) (c : Claim) : Type 0 where
   pub call : s .call ≡ Begin (c .tenant) awaited reads (c .writes)
   pub answer : said (s .outcome .answer) .values ≡ c .tenant ∷ c .serial ∷ []
 
--- step a was made before step b (the latest stands first)
-pub record MadeBefore (a b : Step) (steps : List Step) : Type 0 where
+-- "admitted": some step of the run is such a Begin (the latest stands first)
+pub record AdmittedIn (c : Claim) (steps : List Step) : Type 0 where
+  pub step : Step
   pub later : List Step
-  pub between : List Step
   pub earlier : List Step
-  pub is : steps ≡ later ++ b ∷ (between ++ a ∷ earlier)
+  pub is : steps ≡ later ++ step ∷ earlier
+  pub at : AdmittedAt step c
+
+-- two were admitted, a before b: a by a step that was made earlier than b's
+pub record InTurn (a b : Claim) (steps : List Step) : Type 0 where
+  pub second : AdmittedIn b steps
+  pub first : AdmittedIn a (second .earlier)
 
 abbrev pub TwoNames : Prices → Type 0
 TwoNames p =
-    (shares : List ℕ) (calls : List Call) (a b : Step) (x y : Claim) →
-    MadeBefore a b (reached p shares calls .steps) →
-    AdmittedAt a x →
-    AdmittedAt b y →
-    sameName x y ≡ false
+    (shares : List ℕ) (calls : List Call) (a b : Claim) →
+    InTurn a b (reached p shares calls .steps) →
+    sameName a b ≡ false
 
 -- ---- and a name that was in the queue and has left does not come back, by any further calls up to the next Open
 abbrev pub isQueued : ℕ → ℕ → Table → Bool

@@ -3,7 +3,7 @@
 use Prim.Native.Nat.{ℕ, _<_}
 use mathlib.Core.Path.{_≡_}
 use mathlib.Core.Bool.{Bool, true, false, _&&_, not}
-use mathlib.Core.List.{List, [], _∷_, _++_}
+use mathlib.Core.List.{List, [], _∷_}
 use mathlib.Core.Logic.{_⊎_}
 use lib.ListN.{length}
 use Rattle.rules.specs.Lists.{some}
@@ -13,7 +13,7 @@ use Rattle.rules.specs.Prices.{Prices}
 use Rattle.rules.specs.Sound.{Each, InOrder}
 use Rattle.rules.specs.Runs.{Call, Step, Run, from}
 use Rattle.promises.specs.Fuel.{reached}
-use Rattle.promises.specs.Names.{Claim, claimOf, sameName, AdmittedAt, MadeBefore, HasLeft}
+use Rattle.promises.specs.Names.{Claim, claimOf, sameName, AdmittedIn, InTurn, HasLeft}
 
 -- ---- the points of a run
 -- the run as it was at each of its points, the latest first: now, and before each of its steps. A point has the table of then, and
@@ -33,22 +33,7 @@ undone t (s ∷ earlier) = record { table = s .met; steps = earlier }
 abbrev pub pointBefore : Run → Run
 pointBefore q = undone (q .table) (q .steps)
 
--- ---- "admitted": some step of the run is a Begin that answered with that name
-pub record AdmittedIn (c : Claim) (steps : List Step) : Type 0 where
-  pub step : Step
-  pub later : List Step
-  pub earlier : List Step
-  pub is : steps ≡ later ++ step ∷ earlier
-  pub at : AdmittedAt step c
-
--- two were admitted, the first before the second
-pub record InTurn (a b : Claim) (steps : List Step) : Type 0 where
-  pub first : Step
-  pub second : Step
-  pub made : MadeBefore first second steps
-  pub earlier : AdmittedAt first a
-  pub later : AdmittedAt second b
-
+-- ---- "two admitted requests" are `InTurn` (Names)
 -- "that conflict": told from the lists as they are stored, which is the same as from those given (`ReducedConflicts`)
 abbrev pub clash : Claim → Claim → Bool
 clash a b =

@@ -6,7 +6,7 @@ use second::listing;
 use std::fs;
 use std::path::{Path, PathBuf};
 
-const NAMES: [&str; 9] = [
+const NAMES: [&str; 10] = [
     "twelve-lines",
     "sale",
     "dry",
@@ -16,6 +16,7 @@ const NAMES: [&str; 9] = [
     "early",
     "stock",
     "which",
+    "order",
 ];
 
 fn folder() -> PathBuf {
@@ -48,7 +49,7 @@ fn calls(text: &str) -> Vec<(&str, &str)> {
 }
 
 #[test]
-fn the_nine_are_there() {
+fn the_ten_are_there() {
     let found: Vec<String> = examples().into_iter().map(|(name, _)| name).collect();
     for name in NAMES {
         assert!(found.iter().any(|known| known == name), "{}", name);
