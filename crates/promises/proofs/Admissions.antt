@@ -21,10 +21,10 @@ use Rattle.rules.specs.Runs.Call.{Begin, Finish, Recheck, Scan, Open, Grant, Pi
 use Rattle.rules.proofs.Tests.{eqb-sym}
 use Rattle.rules.proofs.Order.{each-map, order-both}
 use Rattle.rules.proofs.Clashing.{begun-said}
-use Rattle.promises.specs.Names.{Claim, admittedBy, admissions, sameName, NamesDiffer, AdmittedAt, AdmittedIn, InTurn}
+use Rattle.promises.specs.Names.{Claim, admittedBy, admissions, sameName, AdmittedAt, AdmittedIn, InTurn}
 use Rattle.promises.specs.Order.{TotalOrder}
 use Rattle.promises.proofs.Runs.{made}
-use Rattle.promises.proofs.Names.{admitted-is, two-of}
+use Rattle.promises.proofs.Names.{Rise, differ, order-each, admitted-is, two-of}
 
 -- ---- from the list to the steps: whom a step adds, it admitted
 module _ (p : Prices) (t : Table) where
@@ -135,22 +135,26 @@ ranked (InOrder.also {x = c} {xs = cs} ks o) = InOrder.also
     (order-both ks (ranked o) (λ a b ka kb lt. rank-behind a b c cs ka kb lt))
 
 -- ---- the order of admission is total
-pub total : (steps : List Step) → NamesDiffer steps → TotalOrder steps
-total steps names = record {
-  same = λ a b m n h. ⊎-elim (λ e. e) (λ apart. absurd (false≢true (sym (differ a b apart) ∙ h))) (same-or-turn m n);
+pub total : (steps : List Step) → InOrder Rise (admissions steps) → TotalOrder steps
+total steps rise = record {
+  same = λ a b m n h. ⊎-elim (λ e. e) (λ apart. absurd (false≢true (sym (apart-named a b apart) ∙ h))) (same-or-turn m n);
   either = λ a b m n h. ⊎-elim (λ e. absurd (false≢true (sym h ∙ ap (sameName a) (sym e) ∙ own-name a))) (λ apart. apart) (same-or-turn m n);
   one-way = λ a b i k. omega (arith, lower i, lower k);
   through = λ a b c i k. ⊎-elim
       (λ (e : a ≡ c). let lt : rank a cs < rank c cs = omega (arith, lower i, lower k) in absurd (omega (arith, lt, ap (λ (x : Claim). rank x cs) e)))
       (λ apart. ⊎-elim (λ one. one) (λ back. absurd (omega (arith, lower i, lower k, lower back))) apart)
       (same-or-turn (first-in i) (k .second));
+  serials = λ a b i. two-of i rise;
 }
   where
     cs : List Claim
     cs = admissions steps
 
+    names : InOrder (λ a b. sameName a b ≡ false) (admissions steps)
+    names = order-each differ rise
+
     lower : {a b : Claim} → InTurn a b steps → rank a cs < rank b cs
     lower i = two-of i (ranked names)
 
-    differ : (a b : Claim) → InTurn a b steps ⊎ InTurn b a steps → sameName a b ≡ false
-    differ a b apart = ⊎-elim (λ i. two-of i names) (λ i. name-sym a b ∙ two-of i names) apart
+    apart-named : (a b : Claim) → InTurn a b steps ⊎ InTurn b a steps → sameName a b ≡ false
+    apart-named a b apart = ⊎-elim (λ i. two-of i names) (λ i. name-sym a b ∙ two-of i names) apart

@@ -17,7 +17,7 @@ use Rattle.rules.specs.Calls.{openOf}
 use Rattle.rules.specs.Sound.{Each, InOrder, Fit, SoundAny, givenBy}
 use Rattle.rules.specs.Runs.{Call, Step, Run, step, isOpen, after, runOf}
 use Rattle.rules.proofs.Tests.{both, either}
-use Rattle.rules.proofs.Order.{each-map, each-none, each-without, each-last, order-last}
+use Rattle.rules.proofs.Order.{each-first, each-map, each-parts, each-none, each-without, each-last, order-last}
 use Rattle.rules.proofs.Sound.{step-any, open-sound}
 use Rattle.promises.specs.Fuel.{reached}
 use Rattle.promises.specs.Names.{Claim, answered, admittedBy, admissions, sameName, AdmittedAt, AdmittedIn, InTurn, isQueued, OwnNames, TwoNames, NeverBack}
@@ -25,7 +25,7 @@ use Rattle.promises.proofs.Runs.{made, any-run}
 use Rattle.promises.proofs.Changes.{Change, changed, Grown, grown, grown-twice}
 
 -- ---- the invariant
-abbrev Rise : Claim → Claim → Type 0
+abbrev pub Rise : Claim → Claim → Type 0
 Rise a b = a .tenant ≡ b .tenant → a .serial < b .serial
 
 -- an earlier table of the run is sound, and had given no more serials than the table now
@@ -35,7 +35,7 @@ record Was (t u : Table) : Type 0 where
 
 pub record Book (t : Table) (steps : List Step) : Type 0 where
   pub sound : SoundAny t
-  rise : InOrder Rise (admissions steps)
+  pub rise : InOrder Rise (admissions steps)
   given : Each (λ k. k .serial ≤ givenBy t (k .tenant)) (admissions steps)
   past : Each (Was t) (map (λ s. s .met) steps)
 
@@ -45,8 +45,7 @@ book-opens shares = record { sound = open-sound shares; rise = InOrder.none; giv
 
 -- ---- what a change of the queue keeps
 pub each-end : {A : Type 0} {P : A → Type 0} (xs : List A) {e : A} → Each P (xs ++ e ∷ []) → P e
-each-end [] (Each.also p h) = p
-each-end (x ∷ xs) (Each.also p h) = each-end xs h
+each-end xs h = each-first (each-parts xs h .1)
 
 module _ {t : Table} where
   change-rise : {added : List Claim} {q : List Request} (cs : List Claim) → Change t added q → Each (λ k. k .serial ≤ givenBy t (k .tenant)) cs → InOrder Rise cs → InOrder Rise (cs ++ added)
@@ -82,7 +81,7 @@ module _ (p : Prices) where
   book = any-run p Book book-opens book-keeps
 
 -- ---- the names differ
-differ : (a b : Claim) → Rise a b → sameName a b ≡ false
+pub differ : (a b : Claim) → Rise a b → sameName a b ≡ false
 differ a b r = go (sameName a b) refl
   where
     go : (t : Bool) → sameName a b ≡ t → sameName a b ≡ false
@@ -101,14 +100,10 @@ pub own-names : (p : Prices) → OwnNames p
 own-names p shares calls = order-each differ (book p shares calls .rise)
 
 -- ---- two steps of a run
--- the first elements; and those before the last stand so to it
-each-init : {A : Type 0} {P : A → Type 0} (xs ys : List A) → Each P (xs ++ ys) → Each P xs
-each-init [] ys h = Each.none
-each-init (x ∷ xs) ys (Each.also p h) = Each.also p (each-init xs ys h)
-
+-- the first elements stand so; and those before the last to it
 order-init : {A : Type 0} {R : A → A → Type 0} (xs ys : List A) → InOrder R (xs ++ ys) → InOrder R xs
 order-init [] ys o = InOrder.none
-order-init (x ∷ xs) ys (InOrder.also k o) = InOrder.also (each-init xs ys k) (order-init xs ys o)
+order-init (x ∷ xs) ys (InOrder.also k o) = InOrder.also (each-parts xs k .0) (order-init xs ys o)
 
 order-end : {A : Type 0} {R : A → A → Type 0} (xs : List A) {e : A} → InOrder R (xs ++ e ∷ []) → Each (λ x. R x e) xs
 order-end [] o = Each.none
@@ -134,7 +129,7 @@ place-of {c} m =
 
 -- what holds of each in the list holds of who was admitted; and of each two, of two
 pub one-of : {P : Claim → Type 0} {c : Claim} {steps : List Step} → AdmittedIn c steps → Each P (admissions steps) → P c
-one-of {P} {c} m h = each-end (admissions (m .earlier)) (each-init (admissions (m .earlier) ++ c ∷ []) (admissions (m .later)) (subst (Each P) (place-of m) h))
+one-of {P} {c} m h = each-end (admissions (m .earlier)) (each-parts (admissions (m .earlier) ++ c ∷ []) (subst (Each P) (place-of m) h) .0)
 
 pub two-of : {R : Claim → Claim → Type 0} {a b : Claim} {steps : List Step} → InTurn a b steps → InOrder R (admissions steps) → R a b
 two-of {R} {a} {b} i o =

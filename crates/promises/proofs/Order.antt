@@ -1,6 +1,6 @@
--- Promises 15 and 16. The queue stands in the order of admission, and in a sound table nobody that has started conflicts with one
--- ahead. So where the later of two that conflict has started, the earlier is not in the queue; it was there, since it was admitted,
--- and so it has left. From there on it is away, so it started before.
+-- Promises 15 and 16. The queue stands in the order of admission, and in a sound table nobody that is Free or Waiting conflicts with
+-- one ahead. So where the later of two that conflict is, the earlier is not in the queue; it was there, since it was admitted, and so
+-- it has left. From there on it is away, so it started before.
 use Prim.Native.Nat.{ℕ, _≤_, _<_}
 use mathlib.Core.Path.{_≡_, refl, sym, ap, subst, _∙_}
 use mathlib.Core.Bool.{Bool, true, false, _||_, not, false≢true}
@@ -18,12 +18,12 @@ use Rattle.rules.proofs.Tests.{both, either, or-true, lt-or-ge}
 use Rattle.rules.proofs.Order.{each-map, each-both, order-pair, order-both}
 use Rattle.promises.specs.Fuel.{reached}
 use Rattle.promises.specs.Names.{Claim, claimOf, AdmittedAt, AdmittedIn, InTurn}
-use Rattle.promises.specs.Order.{points, undone, clash, starts, Order, StaysAway, StartsAfter, RunInOrder, TotalOrder}
-use Rattle.promises.proofs.Names.{one-of, found-in}
+use Rattle.promises.specs.Order.{points, undone, claimsConflict, starts, Order, StaysAway, StartsAfter, RunInOrder, TotalOrder}
+use Rattle.promises.proofs.Names.{found-in}
 use Rattle.promises.proofs.Admissions.{admitted-on, turn-on, turn-next, first-in}
 use Rattle.promises.proofs.Left.{left-each, left-order}
 use Rattle.promises.proofs.Points.{runAt, now, steps-by-then, no-later}
-use Rattle.promises.proofs.Turns.{names, startedAs, isIn, started, Gone, never, Steady, Away, Kept, kept, admission-total}
+use Rattle.promises.proofs.Turns.{names, worksAs, isIn, works, Gone, never, Steady, Away, Kept, kept, has-gone, admission-total}
 
 -- ---- 15 The order
 -- no element passes both tests, and no two pass one each, either way about: so some passes the one or some the other, not both
@@ -45,12 +45,12 @@ within s (z ∷ since) then (x ∷ later) earlier e new =
     let rest : since ++ then ≡ later ++ s ∷ earlier = cc in
     ⊎-elim inl (λ f. inr (λ b n. turn-on (z ∷ []) (f b n))) (within s since then later earlier rest new)
 
-entries-clash : (x y : Request) (a b : Claim) → claimOf x ≡ a → claimOf y ≡ b → clash a b ≡ true → conflict x y ≡ true
+entries-clash : (x y : Request) (a b : Claim) → claimOf x ≡ a → claimOf y ≡ b → claimsConflict a b ≡ true → conflict x y ≡ true
 unfolding conflict
-entries-clash x y a b is also h = ap (λ (c : Claim). clash c (claimOf y)) is ∙ ap (clash a) also ∙ h
+entries-clash x y a b is also h = ap (λ (c : Claim). claimsConflict c (claimOf y)) is ∙ ap (claimsConflict a) also ∙ h
 
 -- a is admitted before b in a run of these steps, and they conflict; at a point of it
-module _ {steps : List Step} (order : TotalOrder steps) {a b : Claim} (i : InTurn a b steps) (clashes : clash a b ≡ true) {t : Table} {then : List Step} (since : List Step) (all : steps ≡ since ++ then) (k : Kept t then) where
+module _ {steps : List Step} (order : TotalOrder steps) {a b : Claim} (i : InTurn a b steps) (clashes : claimsConflict a b ≡ true) {t : Table} {then : List Step} (since : List Step) (all : steps ≡ since ++ then) (k : Kept t then) where
   -- who bears their names is they
   own : (c : Claim) → AdmittedIn c steps → Each (λ e. names c e ≡ true → claimOf e ≡ c) (t .queue)
   own c m = each-map (λ e n. λ h. order .same (claimOf e) c (subst (AdmittedIn (claimOf e)) (sym all) (admitted-on since n)) m h) (left-each (k .left) (k .admitted))
@@ -65,13 +65,13 @@ module _ {steps : List Step} (order : TotalOrder steps) {a b : Claim} (i : InTur
   back = order .one-way a b i
 
   -- the one is not the other
-  alone : (e : Request) → Own e → names a e ≡ true → startedAs b e ≡ true → ⊥
+  alone : (e : Request) → Own e → names a e ≡ true → worksAs b e ≡ true → ⊥
   alone e own is also =
       let one : a ≡ b = sym (own .0 is) ∙ own .1 (both (names b e) (not (isBlocked (e .mode))) also .0) in
       back (subst (λ (c : Claim). InTurn c a steps) one (subst (λ (c : Claim). InTurn a c steps) (sym one) i))
 
   -- if a is ahead, b is Blocked; and a is not behind
-  ahead : (x y : Request) → Own x → Own y → InTurn (claimOf x) (claimOf y) then × ClearOf x y → (names a x ≡ true → startedAs b y ≡ true → ⊥) × (startedAs b x ≡ true → names a y ≡ true → ⊥)
+  ahead : (x y : Request) → Own x → Own y → InTurn (claimOf x) (claimOf y) then × ClearOf x y → (names a x ≡ true → worksAs b y ≡ true → ⊥) × (worksAs b x ≡ true → names a y ≡ true → ⊥)
   ahead x y ox oy r = (
     (λ is also.
         let h = both (names b y) (not (isBlocked (y .mode))) also in
@@ -82,27 +82,25 @@ module _ {steps : List Step} (order : TotalOrder steps) {a b : Claim} (i : InTur
         back (subst (InTurn b a) (sym all) (turn-on since turn))),
   )
 
-  absent : started b t ≡ true → isIn a t ≡ false
+  absent : works b t ≡ true → isIn a t ≡ false
   absent h = go (isIn a t) refl
     where
       go : (there : Bool) → isIn a t ≡ there → isIn a t ≡ false
-      go true e = absurd (not-both (names a) (startedAs b) (each-map alone owns) (order-both owns (order-pair (left-order (k .left) (k .turns)) (k .book .sound .clear)) ahead) e h)
+      go true e = absurd (not-both (names a) (worksAs b) (each-map alone owns) (order-both owns (order-pair (left-order (k .left) (k .turns)) (k .book .sound .clear)) ahead) e h)
       go false e = e
 
   -- b was admitted by then, and so a was
-  by-then : started b t ≡ true → AdmittedIn a then
+  by-then : works b t ≡ true → AdmittedIn a then
   by-then h =
       let entries : Each (λ e. Own e × AdmittedIn (claimOf e) then) (t .queue) = each-both owns (left-each (k .left) (k .admitted)) (λ e own n. (own, n)) in
-      let w = found-in (startedAs b) entries h in
+      let w = found-in (worksAs b) entries h in
       let e = w .0 in
       let later : AdmittedIn b then = subst (λ (c : Claim). AdmittedIn c then) (w .2 .0 .1 (both (names b e) (not (isBlocked (e .mode))) (w .1) .0)) (w .2 .1) in
       let m = first-in i in
       ⊎-elim (λ n. n) (λ f. absurd (back (subst (InTurn b a) (sym all) (f b later)))) (within (m .step) since then (m .later) (m .earlier) (sym all ∙ m .is) (m .at))
 
-  has-left : started b t ≡ true → Gone a (runAt t then)
-  has-left h =
-      let gone = absent h in
-      record { was = rw gone at (one-of (by-then h) (k .seen)); gone = gone }
+  has-left : works b t ≡ true → Gone a (runAt t then)
+  has-left h = has-gone k (by-then h) (absent h)
 
 module _ (p : Prices) where
   pub order : Order p
@@ -116,17 +114,17 @@ module _ (p : Prices) where
       now (r .table) (r .steps) (kept p shares calls) .away
 
 -- ---- 16 Conflicting requests run in the order of their admission
--- who has started is in the queue
-started-in : (c : Claim) (q : List Request) → some (startedAs c) q ≡ true → some (names c) q ≡ true
+-- who is Free or Waiting is in the queue
+works-in : (c : Claim) (q : List Request) → some (worksAs c) q ≡ true → some (names c) q ≡ true
 unfolding some
-started-in c [] h = h
-started-in c (e ∷ q) h = ⊎-elim
-    (λ (one : startedAs c e ≡ true). ap (λ (b : Bool). b || some (names c) q) (both (names c e) (not (isBlocked (e .mode))) one .0))
-    (λ (rest : some (startedAs c) q ≡ true). ap (λ (b : Bool). names c e || b) (started-in c q rest) ∙ or-true (names c e))
-    (either (startedAs c e) (some (startedAs c) q) h)
+works-in c [] h = h
+works-in c (e ∷ q) h = ⊎-elim
+    (λ (one : worksAs c e ≡ true). ap (λ (b : Bool). b || some (names c) q) (both (names c e) (not (isBlocked (e .mode))) one .0))
+    (λ (rest : some (worksAs c) q ≡ true). ap (λ (b : Bool). names c e || b) (works-in c q rest) ∙ or-true (names c e))
+    (either (worksAs c e) (some (worksAs c) q) h)
 
 -- it had left before the call by which the other started
-left-before : (a b : Claim) (t : Table) (steps : List Step) → Steady (undone t steps .table .queue) (t .queue) → Gone a (runAt t steps) → started b (undone t steps .table) ≡ false → started b t ≡ true → Gone a (undone t steps)
+left-before : (a b : Claim) (t : Table) (steps : List Step) → Steady (undone t steps .table .queue) (t .queue) → Gone a (runAt t steps) → works b (undone t steps .table) ≡ false → works b t ≡ true → Gone a (undone t steps)
 unfolding some
 left-before a b t [] steady left idle runs = left
 left-before a b t (s ∷ steps) steady left idle runs =
@@ -137,22 +135,22 @@ module _ (p : Prices) (shares : List ℕ) (calls : List Call) (a b : Claim) wher
   abbrev whole : Run
   whole = reached p shares calls
 
-  starts-after : (y : Run) → Kept (y .table) (y .steps) → (started b (y .table) ≡ true → Gone a y) → Each (λ x. length (y .steps) ≤ length (x .steps) → Away (a .tenant) (a .serial) x y) (points whole) → starts (b .tenant) (b .serial) y ≡ true → StartsAfter a whole y
+  starts-after : (y : Run) → Kept (y .table) (y .steps) → (works b (y .table) ≡ true → Gone a y) → Each (λ x. length (y .steps) ≤ length (x .steps) → Away (a .tenant) (a .serial) x y) (points whole) → starts (b .tenant) (b .serial) y ≡ true → StartsAfter a whole y
   starts-after y k gone away now-b =
       let idle : Table = undone (y .table) (y .steps) .table in
-      let runs = both (started b (y .table)) (not (started b idle)) now-b in
+      let runs = both (works b (y .table)) (not (works b idle)) now-b in
       let left = gone (runs .0) in
-      record { left = left-before a b (y .table) (y .steps) (k .steady) left (not-true (started b idle) (runs .1)) (runs .0); first = each-map (first left) away }
+      record { left = left-before a b (y .table) (y .steps) (k .steady) left (not-true (works b idle) (runs .1)) (runs .0); first = each-map (first left) away }
     where
       -- from there on it is not in the queue
       first : Gone a y → (x : Run) → (length (y .steps) ≤ length (x .steps) → Away (a .tenant) (a .serial) x y) → starts (a .tenant) (a .serial) x ≡ true → length (x .steps) < length (y .steps)
       first left x away now-a =
-          let runs = both (started a (x .table)) (not (started a (undone (x .table) (x .steps) .table))) now-a in
-          ⊎-elim (λ (lt : length (x .steps) < length (y .steps)). lt) (λ (ge : length (y .steps) ≤ length (x .steps)). never (away ge left .gone) (started-in a (x .table .queue) (runs .0))) (lt-or-ge (length (x .steps)) (length (y .steps)))
+          let runs = both (works a (x .table)) (not (works a (undone (x .table) (x .steps) .table))) now-a in
+          ⊎-elim (λ (lt : length (x .steps) < length (y .steps)). lt) (λ (ge : length (y .steps) ≤ length (x .steps)). never (away ge left .gone) (works-in a (x .table .queue) (runs .0))) (lt-or-ge (length (x .steps)) (length (y .steps)))
 
 pub run-in-order : (p : Prices) → RunInOrder p
 run-in-order p shares calls a b i clashes =
     let r = reached p shares calls in
     let away = no-later (λ q h. h) (r .table) (r .steps) (stays-away p shares calls (a .tenant) (a .serial)) in
-    let known : Each (λ y. Kept (y .table) (y .steps) × (started b (y .table) ≡ true → Gone a y)) (points r) = each-both (kept p shares calls) (order p shares calls a b i clashes) (λ y k h. (k, h)) in
+    let known : Each (λ y. Kept (y .table) (y .steps) × (works b (y .table) ≡ true → Gone a y)) (points r) = each-both (kept p shares calls) (order p shares calls a b i clashes) (λ y k h. (k, h)) in
     each-both known away (λ y k w. starts-after p shares calls a b y (k .0) (k .1) w)

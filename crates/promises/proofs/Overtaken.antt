@@ -1,4 +1,4 @@
--- The other side of promise 15. The runs are computed: by a wrong rule 3.1 has started while 2.1 is in the queue. That no calls do so by
+-- The other side of promise 15. The runs are computed: by a wrong rule 3.1 is Free while 2.1 is in the queue. That no calls do so by
 -- the law book's is the promise itself, of the run that they go on to.
 use mathlib.Core.Path.{_≡_, refl, sym, ap, subst, _∙_}
 use mathlib.Core.Bool.{true, not, true≢false}
@@ -21,14 +21,14 @@ use Rattle.promises.specs.Fuel.{reached}
 use Rattle.promises.specs.Names.{Claim, InTurn}
 use Rattle.promises.specs.Order.{pointsFrom}
 use Rattle.promises.specs.Hung.{fourEach}
-use Rattle.promises.specs.Overtaken.{opening, second, third, two, three, walkBy, Overtaken}
+use Rattle.promises.specs.Overtaken.{firstCalls, second, third, two, three, walkBy, Overtaken}
 use Rattle.promises.proofs.Runs.{made}
 use Rattle.promises.proofs.Admissions.{turn-on}
 use Rattle.promises.proofs.Points.{now}
 use Rattle.promises.proofs.Order.{order}
 
 abbrev one : Run
-one = reached clause9 fourEach (opening [])
+one = reached clause9 fourEach (firstCalls [])
 
 abbrev earlier : Claim
 earlier = record { tenant = 2; serial = 1; reads = []; writes = 7 ∷ 9 ∷ [] }
@@ -60,13 +60,13 @@ unfolding runOf after openOf openRows firstOf fresh grantOf grantRows beginOf be
 overtaken = record {
   begin-breaks = λ h. true≢false (each-first (h earlier later (in-turn _ refl) refl) refl .gone);
   scan-breaks = λ h. true≢false (each-first (h earlier later (turn-on (_ ∷ []) (in-turn _ refl)) refl) refl .gone);
-  begin-else = refl;
+  begin-else = λ t who reads writes. refl;
   scan-else = refl;
   blocked = refl;
   none-found = refl;
   never = λ more shut h.
       let w = steps-grow clause9 more three shut in
       let turn = subst (InTurn earlier later) (sym (w .1)) (turn-on (w .0) (in-turn _ refl)) in
-      now _ _ (order clause9 fourEach (opening (second ∷ third ∷ more)) earlier later turn refl) h;
+      now _ _ (order clause9 fourEach (firstCalls (second ∷ third ∷ more)) earlier later turn refl) h;
   at-last = refl;
 }

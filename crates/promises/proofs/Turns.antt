@@ -21,7 +21,7 @@ use Rattle.promises.specs.Order.{pointsFrom, points, undone, AdmissionTo
 use Rattle.promises.proofs.Runs.{made}
 use Rattle.promises.proofs.Calls.{open-empty}
 use Rattle.promises.proofs.Changes.{Change, changed}
-use Rattle.promises.proofs.Names.{Book, book-opens, book-keeps, left-given, change-away, none-some, order-each, own-names}
+use Rattle.promises.proofs.Names.{Book, book-opens, book-keeps, left-given, change-away, none-some, order-each, one-of, book}
 use Rattle.promises.proofs.Admissions.{made-admits, admitted-on, admitted-next, turn-on, turn-next, own-name, total}
 use Rattle.promises.proofs.Left.{Left, left-each, left-order, change-left}
 use Rattle.promises.proofs.Points.{runAt, any-point, since-all}
@@ -30,8 +30,8 @@ use Rattle.promises.proofs.Points.{runAt, any-point, since-all}
 abbrev pub names : Claim → Request → Bool
 names c e = isNamed (c .tenant) (c .serial) e
 
-abbrev pub startedAs : Claim → Request → Bool
-startedAs c e = names c e && not (isBlocked (e .mode))
+abbrev pub worksAs : Claim → Request → Bool
+worksAs c e = names c e && not (isBlocked (e .mode))
 
 abbrev pub isIn : Claim → Table → Bool
 isIn c t = some (names c) (t .queue)
@@ -39,8 +39,8 @@ isIn c t = some (names c) (t .queue)
 abbrev pub wasIn : Claim → List Step → Bool
 wasIn c steps = some (λ s. isIn c (s .met)) steps
 
-abbrev pub started : Claim → Table → Bool
-started c t = some (startedAs c) (t .queue)
+abbrev pub works : Claim → Table → Bool
+works c t = some (worksAs c) (t .queue)
 
 abbrev pub Gone : Claim → Run → Type 0
 Gone c q = HasLeft (c .tenant) (c .serial) q
@@ -51,7 +51,7 @@ never f t = absurd (false≢true (sym f ∙ t))
 -- ---- what holds at every point
 -- the call by which one starts takes nobody out
 abbrev pub Steady : List Request → List Request → Type 0
-Steady q next = (a b : Claim) → some (startedAs b) q ≡ false → some (startedAs b) next ≡ true → some (names a) next ≡ false → some (names a) q ≡ false
+Steady q next = (a b : Claim) → some (worksAs b) q ≡ false → some (worksAs b) next ≡ true → some (names a) next ≡ false → some (names a) q ≡ false
 
 -- and what has left at the earlier of two points has left at the later
 abbrev pub Away : ℕ → ℕ → Run → Run → Type 0
@@ -100,7 +100,7 @@ some-without f q at h = none-some f (each-without at (each-none f q h))
 change-steady : {t : Table} {added : List Claim} {q : List Request} → Change t added q → Steady (t .queue) q
 change-steady Change.same a b before after gone = gone
 change-steady {t} (Change.joins e k) a b before after gone = some-first (names a) (t .queue) (e ∷ []) gone
-change-steady {t} (Change.leaves at) a b before after gone = never (some-without (startedAs b) (t .queue) at before) after
+change-steady {t} (Change.leaves at) a b before after gone = never (some-without (worksAs b) (t .queue) at before) after
 change-steady {t} (Change.changes at e k) a b before after gone =
     sym (some-set (names a) (t .queue) at e (ap (λ (c : Claim). sameName c a) k)) ∙ gone
 
@@ -150,9 +150,15 @@ module _ (p : Prices) where
   pub kept : (shares : List ℕ) (calls : List Call) → Each (λ q. Kept (q .table) (q .steps)) (points (reached p shares calls))
   kept = any-point p Kept kept-opens kept-on
 
+-- whom it admitted and who is not there has left
+pub has-gone : {t : Table} {steps : List Step} {c : Claim} → Kept t steps → AdmittedIn c steps → isIn c t ≡ false → Gone c (runAt t steps)
+has-gone k m gone = record { was = rw gone at (one-of m (k .seen)); gone = gone }
+
 -- ---- 17 The order of admission, and of the queue
 pub admission-total : (p : Prices) → AdmissionTotal p
-admission-total p shares calls = total (reached p shares calls .steps) (own-names p shares calls)
+admission-total p shares calls = total (reached p shares calls .steps) (book p shares calls .rise)
 
 pub queue-order : (p : Prices) → QueueOrder p
-queue-order p shares calls = each-map (λ q k. record { admitted = left-each (k .left) (k .admitted); ahead = left-order (k .left) (k .turns) }) (kept p shares calls)
+queue-order p shares calls = each-map
+    (λ q k. record { admitted = left-each (k .left) (k .admitted); ahead = left-order (k .left) (k .turns); others = λ c m gone. has-gone k m gone })
+    (kept p shares calls)

@@ -58,7 +58,7 @@ OwnNames p =
     (shares : List ℕ) (calls : List Call) →
     NamesDiffer (reached p shares calls .steps)
 
--- the same told of two Begins of a run, whose reads are as given
+-- the step is a Begin that answered with this name: its reads are as given, those of the claim are reduced
 pub record AdmittedAt (s : Step) (c : Claim) : Type 0 where
   pub awaited : ℕ
   pub reads : List ℕ
@@ -79,6 +79,7 @@ pub record InTurn (a b : Claim) (steps : List Step) : Type 0 where
   pub second : AdmittedIn b steps
   pub first : AdmittedIn a (second .earlier)
 
+-- the same told of two Begins of a run
 abbrev pub TwoNames : Prices → Type 0
 TwoNames p =
     (shares : List ℕ) (calls : List Call) (a b : Claim) →

@@ -12,18 +12,19 @@ use Rattle.rules.specs.Request.{Request, reduced, conflict, isFree, isBlocked, 
 use Rattle.rules.specs.Table.{Table}
 use Rattle.rules.specs.Prices.{clause9, admission, searching}
 use Rattle.rules.specs.Refusals.{firstOf, beginRows, scanRows}
+use Rattle.rules.specs.Clash.{lowestClash}
 use Rattle.rules.specs.Scan.{found, nothing, Walk, qualifies}
 use Rattle.rules.specs.Calls.{Outcome, tenantCall, named, asked, joined, found-table, found-answer, beginOf, scanOf}
 use Rattle.rules.specs.Runs.{Call, Run, isOpen, runOf}
 use Rattle.rules.specs.Runs.Call.{Begin, Finish, Scan, Grant, Pick}
 use Rattle.promises.specs.Fuel.{reached}
 use Rattle.promises.specs.Names.{HasLeft}
-use Rattle.promises.specs.Order.{hasStarted, KeepsOrder}
+use Rattle.promises.specs.Order.{isAtWork, KeepsOrder}
 use Rattle.promises.specs.Hung.{fourEach}
 
 -- ---- three shops: 1.1 writes record 7 and runs; 2.1 writes 7 and 9, and is Blocked behind it; 3.1 writes 9
-abbrev pub opening : List Call → List Call
-opening more = Grant 1 100 ∷ Grant 2 100 ∷ Grant 3 100 ∷ Begin 1 0 [] (7 ∷ []) ∷ more
+abbrev pub firstCalls : List Call → List Call
+firstCalls more = Grant 1 100 ∷ Grant 2 100 ∷ Grant 3 100 ∷ Begin 1 0 [] (7 ∷ []) ∷ more
 
 abbrev pub second : Call
 second = Begin 2 0 [] (7 ∷ 9 ∷ [])
@@ -32,10 +33,10 @@ abbrev pub third : Call
 third = Begin 3 0 [] (9 ∷ [])
 
 abbrev pub two : Run
-two = reached clause9 fourEach (opening (second ∷ []))
+two = reached clause9 fourEach (firstCalls (second ∷ []))
 
 abbrev pub three : Run
-three = reached clause9 fourEach (opening (second ∷ third ∷ []))
+three = reached clause9 fourEach (firstCalls (second ∷ third ∷ []))
 
 -- ---- the law book's Begin and Scan with another rule, and all else as it is: the state in which a request joins; whether an entry may be
 -- promoted, by those ahead of it, told by a search with fuel to finish
@@ -43,7 +44,8 @@ abbrev pub beginBy : (List Request → Request → Request) → Table → ℕ �
 beginBy rule t who reads writes =
     let e = asked t who 0 reads writes in
     let entry = rule (t .queue) (reduced e) in
-    tenantCall clause9 t who (firstOf (beginRows clause9 t e)) (admission clause9 (reduced e)) (joined t entry) (named entry)
+    let answer = if isBlocked (entry .mode) then BlockedOn who (e .serial) (lowestClash (t .queue) (reduced e)) else named entry in
+    tenantCall clause9 t who (firstOf (beginRows clause9 t e)) (admission clause9 (reduced e)) (joined t entry) answer
 
 unfoldable pub walkBy : (List Request → Request → Bool) → List Request → List Request → Walk
 walkBy rule ahead [] = record { looked = ahead; end = nothing }
@@ -73,8 +75,8 @@ pub record Overtaken : Type 0 where
   -- by the wrong rules 3.1 is Free while 2.1, which was admitted before it, is in the queue
   pub begin-breaks : KeepsOrder (andThen two third (beginBy byFree (two .table) 3 [] (9 ∷ []))) → ⊥
   pub scan-breaks : KeepsOrder (andThen three (Scan 3) (scanBy byRunning (three .table) 3)) → ⊥
-  -- nothing but the rule is wrong: by the law book's own the two are its Begin and its Scan
-  pub begin-else : beginBy admitted (two .table) 3 [] (9 ∷ []) .table ≡ beginOf clause9 (two .table) 3 0 [] (9 ∷ []) .table
+  -- nothing but the rule is wrong: by the law book's own the one is its Begin, and the other its Scan here, where the fuel is enough
+  pub begin-else : (t : Table) (who : ℕ) (reads writes : List ℕ) → beginBy admitted t who reads writes ≡ beginOf clause9 t who 0 reads writes
   pub scan-else : scanBy qualifies (three .table) 3 ≡ scanOf clause9 (three .table) 3
   -- by which 3.1 is Blocked on record 9, and the search finds nothing
   pub blocked : beginOf clause9 (two .table) 3 0 [] (9 ∷ []) .answer ≡ BlockedOn 3 1 9
@@ -84,7 +86,7 @@ pub record Overtaken : Type 0 where
       (more : List Call) →
       every (λ c. not (isOpen c)) more ≡ true →
       let end = runOf clause9 three more in
-      hasStarted 3 1 (end .table) ≡ true →
+      isAtWork 3 1 (end .table) ≡ true →
       HasLeft 2 1 end
   -- and once it has left, there are
-  pub at-last : hasStarted 3 1 (runOf clause9 three (Finish 1 1 ∷ Pick ∷ Finish 2 1 ∷ Scan 3 ∷ []) .table) ≡ true
+  pub at-last : isAtWork 3 1 (runOf clause9 three (Finish 1 1 ∷ Pick ∷ Finish 2 1 ∷ Scan 3 ∷ []) .table) ≡ true
