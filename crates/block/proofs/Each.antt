@@ -10,11 +10,6 @@ use Rattle.rules.proofs.Order.{each-at, each-last}
 use Rattle.block.specs.Block.{tab}
 use Rattle.block.proofs.Places.{tab-length, tab-get}
 
-module _ {A : Type 0} where
-  pub each-pair : {P Q : A → Type 0} {l : List A} → Each P l → Each Q l → Each (λ x. P x × Q x) l
-  each-pair none none = none
-  each-pair (also p ps) (also q qs) = also (p, q) (each-pair ps qs)
-
 -- of each image, and of each element by its image
 pub each-of : {A B : Type 0} {P : B → Type 0} (f : A → B) (l : List A) → Each (λ x. P (f x)) l → Each P (map f l)
 each-of f [] none = none

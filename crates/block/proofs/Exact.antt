@@ -15,8 +15,8 @@ use Rattle.block.specs.Bytes.{entryBytes}
 use Rattle.block.specs.Block.{tab, blockOf, SoundBlock}
 use Rattle.block.specs.Clauses.{part, requestIn, meterAt, meterFrom, countIn, rowAt, rowsIn, queueIn, tableIn, Clauses, ClausesTell}
 use Rattle.block.proofs.Places.{tab-length}
-use Rattle.rules.proofs.Order.{each-map, each-both}
-use Rattle.block.proofs.Each.{each-pair, each-of, tab-each}
+use Rattle.rules.proofs.Order.{each-map, each-both, each-pair}
+use Rattle.block.proofs.Each.{each-of, tab-each}
 use Rattle.block.proofs.Reading.{entry-state, entry-rest, entry-keeps}
 use Rattle.block.proofs.Whole.{head11, head12, head13, head14, head15, block-length, read-count, read-cx, read-cs, read-unused, read-rows, read-meters, read-queue, read-table}
 use Rattle.block.proofs.Back.{Small, small-part, small-each, block-back}

@@ -11,8 +11,8 @@ use Rattle.rules.specs.Sound.{Each}
 use Rattle.block.specs.Clauses.{requestIn, countIn, rowsIn, queueIn, Suited, Clauses, Heads}
 use Rattle.block.specs.Check.{Tells, MetersFit, RowFits, QueueFits}
 use Rattle.block.proofs.Telling.{part-last}
-use Rattle.rules.proofs.Order.{each-map, each-both}
-use Rattle.block.proofs.Each.{each-pair, each-of, each-under}
+use Rattle.rules.proofs.Order.{each-map, each-both, each-pair}
+use Rattle.block.proofs.Each.{each-of, each-under}
 
 -- every byte behind the entries in use
 abbrev pub Unused : List ℕ → Type 0

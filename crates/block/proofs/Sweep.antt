@@ -20,8 +20,8 @@ use Rattle.rules.proofs.Meters.{tenant-range}
 use Rattle.counters.specs.Counters.{at, Raised}
 use Rattle.block.specs.Clauses.{requestIn}
 use Rattle.block.specs.Check.{RowFits}
-use Rattle.rules.proofs.Order.{each-first, each-rest, each-map, each-both}
-use Rattle.block.proofs.Each.{each-pair, each-of, each-under}
+use Rattle.rules.proofs.Order.{each-first, each-rest, each-map, each-both, each-pair}
+use Rattle.block.proofs.Each.{each-of, each-under}
 
 -- a serial above its tenant's last
 abbrev pub Past : List ℕ → Request → Type 0

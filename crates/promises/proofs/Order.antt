@@ -15,7 +15,7 @@ use Rattle.rules.specs.Prices.{Prices}
 use Rattle.rules.specs.Sound.{Each, InOrder, ClearOf}
 use Rattle.rules.specs.Runs.{Call, Step, Run, step}
 use Rattle.rules.proofs.Tests.{both, either, or-true, lt-or-ge}
-use Rattle.rules.proofs.Order.{each-map, each-both, order-pair, order-both}
+use Rattle.rules.proofs.Order.{each-map, each-both, each-pair, order-pair, order-both}
 use Rattle.promises.specs.Fuel.{reached}
 use Rattle.promises.specs.Names.{Claim, claimOf, AdmittedAt, AdmittedIn, InTurn}
 use Rattle.promises.specs.Order.{points, undone, claimsConflict, starts, Order, StaysAway, StartsAfter, RunInOrder, TotalOrder}
@@ -59,7 +59,7 @@ module _ {steps : List Step} (order : TotalOrder steps) {a b : Claim} (i : InTur
   Own e = (names a e ≡ true → claimOf e ≡ a) × (names b e ≡ true → claimOf e ≡ b)
 
   owns : Each Own (t .queue)
-  owns = each-both (own a (first-in i)) (own b (i .second)) (λ e x y. (x, y))
+  owns = each-pair (own a (first-in i)) (own b (i .second))
 
   back : InTurn b a steps → ⊥
   back = order .one-way a b i
@@ -92,8 +92,7 @@ module _ {steps : List Step} (order : TotalOrder steps) {a b : Claim} (i : InTur
   -- b was admitted by then, and so a was
   by-then : works b t ≡ true → AdmittedIn a then
   by-then h =
-      let entries : Each (λ e. Own e × AdmittedIn (claimOf e) then) (t .queue) = each-both owns (left-each (k .left) (k .admitted)) (λ e own n. (own, n)) in
-      let w = found-in (worksAs b) entries h in
+      let w = found-in (worksAs b) (each-pair owns (left-each (k .left) (k .admitted))) h in
       let e = w .0 in
       let later : AdmittedIn b then = subst (λ (c : Claim). AdmittedIn c then) (w .2 .0 .1 (both (names b e) (not (isBlocked (e .mode))) (w .1) .0)) (w .2 .1) in
       let m = first-in i in
@@ -152,5 +151,5 @@ pub run-in-order : (p : Prices) → RunInOrder p
 run-in-order p shares calls a b i clashes =
     let r = reached p shares calls in
     let away = no-later (λ q h. h) (r .table) (r .steps) (stays-away p shares calls (a .tenant) (a .serial)) in
-    let known : Each (λ y. Kept (y .table) (y .steps) × (works b (y .table) ≡ true → Gone a y)) (points r) = each-both (kept p shares calls) (order p shares calls a b i clashes) (λ y k h. (k, h)) in
+    let known = each-pair (kept p shares calls) (order p shares calls a b i clashes) in
     each-both known away (λ y k w. starts-after p shares calls a b y (k .0) (k .1) w)

@@ -31,6 +31,9 @@ module _ {A : Type 0} where
   each-both Each.none Each.none f = Each.none
   each-both (Each.also {x = x} p ps) (Each.also q qs) f = Each.also (f x p q) (each-both ps qs f)
 
+  pub each-pair : {P Q : A → Type 0} {xs : List A} → Each P xs → Each Q xs → Each (λ x. P x × Q x) xs
+  each-pair h k = each-both h k (λ x p q. (p, q))
+
   pub each-append : {P : A → Type 0} {xs ys : List A} → Each P xs → Each P ys → Each P (xs ++ ys)
   each-append Each.none k = k
   each-append (Each.also p h) k = Each.also p (each-append h k)
@@ -73,7 +76,7 @@ module _ {A : Type 0} where
   -- ---- each two in order
   pub order-pair : {R S : A → A → Type 0} {xs : List A} → InOrder R xs → InOrder S xs → InOrder (λ x y. R x y × S x y) xs
   order-pair InOrder.none InOrder.none = InOrder.none
-  order-pair (InOrder.also k o) (InOrder.also l q) = InOrder.also (each-both k l (λ y r s. (r, s))) (order-pair o q)
+  order-pair (InOrder.also k o) (InOrder.also l q) = InOrder.also (each-pair k l) (order-pair o q)
 
   pub order-both : {P : A → Type 0} {R S : A → A → Type 0} {xs : List A} → Each P xs → InOrder R xs → ((x y : A) → P x → P y → R x y → S x y) → InOrder S xs
   order-both Each.none InOrder.none f = InOrder.none
