@@ -11,7 +11,7 @@ use Rattle.rules.specs.Calls.{Outcome, openOf}
 use Rattle.rules.specs.Sound.{Each, SoundTable}
 use Rattle.rules.specs.Sound.Each.{none, also}
 use Rattle.rules.specs.Runs.{Call, Run, step, isOpen, from, opened, after, runOf}
-use Rattle.rules.specs.Runs.Call.{Begin, Finish, Recheck, Scan, Open, Grant, Pick, Deliver}
+use Rattle.rules.specs.Runs.Call.{Begin, Finish, Recheck, Scan, Open, Grant, Pick, Deliver, Evict, Cancel}
 use Rattle.rules.proofs.Tests.{both}
 use Rattle.manager.specs.Runs.{outcomesOf}
 use Rattle.block.specs.Block.{blockOf, SoundBlock}
@@ -31,6 +31,8 @@ has-step (Open shares) t s e = record { whole = ap length e ∙ block-length t s
 has-step (Grant who amount) t s e = record { of = t; sound = s; is = e; outcome = refl }
 has-step Pick t s e = record { of = t; sound = s; is = e; outcome = refl }
 has-step (Deliver who serial) t s e = record { of = t; sound = s; is = e; outcome = refl }
+has-step (Evict who serial) t s e = record { of = t; sound = s; is = e; outcome = refl }
+has-step (Cancel who serial) t s e = record { of = t; sound = s; is = e; outcome = refl }
 
 -- so the calls from there are the law book's run
 runs : {b last : List ℕ} {cs : List Call} {rs : List Reply} → Made b cs rs last → (run : Run) → SoundTable (run .table) → b ≡ blockOf (run .table) → IsRun run cs rs last
@@ -55,6 +57,8 @@ no-step (Open shares) wrong z o h = true≢false (sym z)
 no-step (Grant who amount) wrong z o h = wrong (record { of = h .of; sound = h .sound; is = h .is })
 no-step Pick wrong z o h = wrong (record { of = h .of; sound = h .sound; is = h .is })
 no-step (Deliver who serial) wrong z o h = wrong (record { of = h .of; sound = h .sound; is = h .is })
+no-step (Evict who serial) wrong z o h = wrong (record { of = h .of; sound = h .sound; is = h .is })
+no-step (Cancel who serial) wrong z o h = wrong (record { of = h .of; sound = h .sound; is = h .is })
 
 stays : {b last : List ℕ} {cs : List Call} {rs : List Reply} → Made b cs rs last → (SoundBlock b → ⊥) → every (λ c. not (isOpen c)) cs ≡ true → (last ≡ b) × Each (λ r. r ≡ refused15) rs
 unfolding every

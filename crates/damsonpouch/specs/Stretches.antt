@@ -13,7 +13,7 @@ use Rattle.rules.specs.Prices.{clause9, pricesOf}
 use Rattle.rules.specs.Calls.{Outcome, openOf}
 use Rattle.rules.specs.Sound.{Each, SoundTable}
 use Rattle.rules.specs.Runs.{Call, Run, step, isOpen, from, opened, runOf}
-use Rattle.rules.specs.Runs.Call.{Begin, Finish, Recheck, Scan, Open, Grant, Pick, Deliver}
+use Rattle.rules.specs.Runs.Call.{Begin, Finish, Recheck, Scan, Open, Grant, Pick, Deliver, Evict, Cancel}
 use Rattle.manager.specs.Runs.{outcomesOf}
 use Rattle.block.specs.Block.{blockOf, SoundBlock}
 use Rattle.damsonpouch.specs.declared.Reply.{Reply}
@@ -30,6 +30,8 @@ Has (Open shares) = Anew (openOf shares)
 Has (Grant who amount) = On (λ t. step (pricesOf t) t (Grant who amount))
 Has Pick = On (λ t. step (pricesOf t) t Pick)
 Has (Deliver who serial) = On (λ t. step (pricesOf t) t (Deliver who serial))
+Has (Evict who serial) = On (λ t. step (pricesOf t) t (Evict who serial))
+Has (Cancel who serial) = On (λ t. step (pricesOf t) t (Cancel who serial))
 
 -- calls one after the other, each on the bytes that the one before left: of each, the contract holds
 pub data Made : List ℕ → List Call → List Reply → List ℕ → Type 0 where

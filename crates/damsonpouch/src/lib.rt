@@ -1,10 +1,10 @@
-// The eight calls on a lent block, held, and the check, for a host in Rust or C to link. Each takes any bytes, any numbers and lists of
+// The ten calls on a lent block, held, and the check, for a host in Rust or C to link. Each takes any bytes, any numbers and lists of
 // any length. A call on a block that is not sound is refused with 15, burns nothing and writes nothing; on a sound block it does
 // to the block what the manager's call does to the state.
 ghost use mathlib.Core.Path.{_≡_};
 ghost use lib.ListN.{length};
 ghost use Rattle.rules.specs.Prices.{pricesOf};
-ghost use Rattle.rules.specs.Calls.{beginOf, finishOf, recheckOf, scanOf, openOf, grantOf, pickOf, deliverOf};
+ghost use Rattle.rules.specs.Calls.{beginOf, finishOf, recheckOf, scanOf, openOf, grantOf, pickOf, deliverOf, evictOf, cancelOf};
 ghost use Rattle.manager.specs.State.{view, Sound};
 ghost use Rattle.block.specs.Block.{blockOf, SoundBlock};
 ghost use Rattle.block.specs.Check.{Tells};
@@ -239,5 +239,29 @@ pub extern "C" fn damsonpouch_deliver(b: &mut [u8], tenant: u8, serial: u16) -> 
     }
     let s = block::read::state(b);
     let n = manager::deliver::deliver(s, tenant, serial);
+    stored(b, n)
+}
+
+#[no_mangle]
+pub extern "C" fn damsonpouch_evict(b: &mut [u8], tenant: u8, serial: u16) -> Reply
+    ensures { λ r. ⌜ Linked (On (λ t. evictOf t tenant serial)) (now (b .entry)) (now (b .exit)) r ⌝ }
+{
+    if !block::check::sound(b) {
+        return refused();
+    }
+    let s = block::read::state(b);
+    let n = manager::evict::evict(s, tenant, serial);
+    stored(b, n)
+}
+
+#[no_mangle]
+pub extern "C" fn damsonpouch_cancel(b: &mut [u8], tenant: u8, serial: u16) -> Reply
+    ensures { λ r. ⌜ Linked (On (λ t. cancelOf (pricesOf t) t tenant serial)) (now (b .entry)) (now (b .exit)) r ⌝ }
+{
+    if !block::check::sound(b) {
+        return refused();
+    }
+    let s = block::read::state(b);
+    let n = manager::cancel::cancel(s, tenant, serial);
     stored(b, n)
 }

@@ -11,7 +11,7 @@ use Rattle.rules.specs.Prices.{clause9, searching}
 use Rattle.rules.specs.Calls.{Outcome as LawOutcome, asked, search}
 use Rattle.rules.specs.Said.{said}
 use Rattle.rules.specs.Runs.{Call, step, callerOf, isOpen, number}
-use Rattle.rules.specs.Runs.Call.{Begin, Finish, Scan, Open, Pick}
+use Rattle.rules.specs.Runs.Call.{Begin, Finish, Scan, Open, Pick, Evict, Cancel}
 use Rattle.rules.specs.Sound.{SoundAny}
 use Rattle.rules.proofs.Sound.{sound-any}
 use Rattle.promises.specs.Fuel.{recordsIn, Costs9, Pays, Gains}
@@ -19,6 +19,7 @@ use Rattle.promises.specs.Refused.{SameButFuel, Refusal, RefusedOpen}
 use Rattle.promises.specs.Searches.{Promoting, LookedAtAll, CutShort}
 use Rattle.promises.specs.Places.{Joins, Leaves, FrontRuns}
 use Rattle.promises.specs.Reports.{ReportOf}
+use Rattle.promises.specs.TakingOut.{Takes, LowersNeither, TakenOut}
 use Rattle.promises.specs.Promises.{Promises}
 use Rattle.promises.proofs.Promises.{at-clause9}
 use Rattle.manager.specs.declared.State.{State}
@@ -88,6 +89,11 @@ module _ (s : CodeStep) (m : Made s) where
     admission = λ who awaited reads writes is may. seen-as (Joins clause9 t (asked t who awaited reads writes)) (Begin who awaited reads writes) is (promised .admits t who awaited reads writes may);
     letting-go = λ who serial is may. seen-as (Leaves t who serial) (Finish who serial) is (promised .finishes t who serial may);
     front-picked = λ e q is front. seen-as (FrontRuns e q) Pick is (promised .picks t e q front);
+    eviction-takes = λ from serial who is. seen-as (Takes t from who) (Evict from serial) is (promised .eviction-takes t from serial who);
+    others-lower-neither = λ who tenant shut other kept. seen-by (LowersNeither t who) (promised .others-lower-neither t (s .call) who sound tenant shut other kept);
+    evicted = λ ahead e behind is queue. seen-as (TakenOut t ahead e behind 0) (Evict (e .tenant) (e .serial)) is (promised .evicts t ahead e behind sound queue);
+    cancelled = λ ahead e behind is queue fuelled blocked. seen-as (TakenOut t ahead e behind 1) (Cancel (e .tenant) (e .serial)) is (promised .cancels t ahead e behind sound queue fuelled blocked);
+    cancelled-no-other = λ ahead e behind is queue fuelled runs. seen-as (λ o. number o ≡ 11) (Cancel (e .tenant) (e .serial)) is (promised .cancels-no-other t ahead e behind sound queue fuelled runs);
   }
 
 pub every-call : EveryCall

@@ -1,20 +1,22 @@
 -- What the promises say of the law book's runs, they say of the real ones, which are those seen through the view.
-use Prim.Native.Nat.{ℕ}
+use Prim.Native.Nat.{ℕ, _+_, _≤_}
 use mathlib.Core.Path.{_≡_, sym, ap, subst, _∙_}
 use mathlib.Core.Bool.{false}
 use mathlib.Core.List.{List}
-use Rattle.rules.specs.Prices.{clause9}
+use lib.ListN.{take}
+use Rattle.rules.specs.Prices.{clause9, searching}
 use Rattle.rules.specs.Table.{Table}
-use Rattle.rules.specs.Calls.{Outcome}
+use Rattle.rules.specs.Calls.{Outcome, scanOf}
 use Rattle.rules.specs.Sound.{Each}
-use Rattle.rules.specs.Runs.{Call, Run, step, isOpen, runOf}
+use Rattle.rules.specs.Runs.{Call, Run, step, isOpen, number, from, runOf}
 use Rattle.rules.proofs.Tests.{if-either}
 use Rattle.rules.proofs.Order.{each-map}
 use Rattle.rules.proofs.Sound.{sound-any}
-use Rattle.promises.specs.Fuel.{PricesPaid, Balanced, Counted}
+use Rattle.promises.specs.Fuel.{PricesPaid, Balanced, Counted, fuelOf}
 use Rattle.promises.specs.Names.{NamesDiffer, HasLeft, isQueued}
 use Rattle.promises.specs.Order.{KeepsOrder, LeftForGood, RunsInTurn, TotalOrder, QueueInOrder, points}
 use Rattle.promises.specs.Drains.{NoneHangs, draining, Drained}
+use Rattle.promises.specs.TakingOut.{WaitsAt, PromotesUpTo}
 use Rattle.promises.specs.Sales.{Ask, begin, HeldUp, meeting, Meet}
 use Rattle.promises.specs.Promises.{Promises}
 use Rattle.promises.proofs.Promises.{at-clause9}
@@ -23,7 +25,7 @@ use Rattle.manager.specs.State.{view, Sound}
 use Rattle.manager.specs.Runs.{CodeRun, Ran, uncalled, called, seenRun}
 use Rattle.manager.proofs.Runs.{did-seen, ran-run, code-runs-faithfully}
 use Rattle.demands.specs.OfCalls.{Made}
-use Rattle.demands.specs.OfRuns.{EveryRun}
+use Rattle.demands.specs.OfRuns.{Freed, EveryRun}
 use Rattle.demands.proofs.OfCalls.{every-call}
 
 -- each step of a run is a real call on a sound state
@@ -35,6 +37,17 @@ ran-made {run} (called c r d more) h all =
 -- the law book's Begin at this table is held up
 abbrev Waits : Ask → ℕ → Table → Type 0
 Waits b r t = HeldUp b t r (step clause9 t (begin b) .answer)
+
+-- the law book's promise, at the tables that the code's states show
+freed-by : Promises clause9 → (s : State) → Sound s → Freed s
+freed-by promised s h e f c out more outcomes end k gave behind takes did done shut ran waits enough scans =
+    let t = view s in
+    let v = view (end .state) in
+    let is : runOf clause9 (from (step clause9 t c .table)) more .table ≡ v = ap (λ (u : Table). runOf clause9 (from u) more .table) (sym (did .table)) ∙ ap (λ (r : Run). r .table) (ran-run ran) in
+    let passed : number (step clause9 t c) ≡ 0 = ap number (sym (did-seen did)) ∙ done in
+    let law = promised .next-scan t e f c more k (sound-any (h .table)) behind takes passed shut in
+    subst (PromotesUpTo clause9 (f .tenant) k v) (sym (did-seen scans))
+    (subst (λ (u : Table). WaitsAt f k u → searching clause9 (take (k + 1) (u .queue)) ≤ fuelOf u (f .tenant) → PromotesUpTo clause9 (f .tenant) k u (scanOf clause9 u (f .tenant))) is law waits enough)
 
 pub every-run : EveryRun
 every-run shares first cs rs last real =
@@ -64,4 +77,8 @@ every-run shares first cs rs last real =
       runs-in-turn = of RunsInTurn (promised .run-in-order shares cs);
       admission-total = of (λ r. TotalOrder (r .steps)) (promised .admission-total shares cs);
       queue-in-order = of (λ r. Each QueueInOrder (points r)) (promised .queue-order shares cs);
+      can-evict = λ outcomes end ran.
+          let t = view (last .state) in
+          ap (λ (r : Run). r .table) (sym (ran-run ran)) ∙ promised .host-empties t (sound-any (faithful .last-sound .table));
+      freed = freed-by promised (last .state) (faithful .last-sound);
     }

@@ -4,13 +4,13 @@
 use Prim.Native.Nat.{ℕ, _+_, _≤_, _<_}
 use mathlib.Core.Path.{_≡_}
 use mathlib.Core.Bool.{true, false}
-use mathlib.Core.List.{List, []}
+use mathlib.Core.List.{List, [], _∷_, _++_}
 use lib.Dec.{eqb, ltb}
 use lib.ListN.{take}
 use Rattle.rules.specs.declared.Mode.{Mode}
 use Rattle.rules.specs.declared.Answer.the-variants.{Nothing, Refused, Named}
 use Rattle.rules.specs.Lists.{total}
-use Rattle.rules.specs.Request.{Request}
+use Rattle.rules.specs.Request.{Request, isBlocked}
 use Rattle.rules.specs.Table.{Table, isTenant, meterOf, placesOf}
 use Rattle.rules.specs.CallTable.{isRequest}
 use Rattle.rules.specs.Prices.{clause9, pricesOf, searching}
@@ -18,12 +18,13 @@ use Rattle.rules.specs.Counters.{cx, cs}
 use Rattle.rules.specs.Calls.{Outcome as LawOutcome, asked, search}
 use Rattle.rules.specs.Said.{said}
 use Rattle.rules.specs.Runs.{step, roleOf, callerOf, isOpen, number}
-use Rattle.rules.specs.Runs.Call.{Begin, Finish, Scan, Open, Pick}
+use Rattle.rules.specs.Runs.Call.{Begin, Finish, Scan, Open, Pick, Evict, Cancel}
 use Rattle.promises.specs.Fuel.{fuelOf, recordsIn, tableCharge, Costs9, Pays, Gains}
 use Rattle.promises.specs.Refused.{RefusedOpen}
 use Rattle.promises.specs.Searches.{FirstReady, Promoting, LookedAtAll, CutShort}
 use Rattle.promises.specs.Places.{MayJoin, Joins, MayLeave, Leaves, BlockedFront, FrontRuns}
 use Rattle.promises.specs.Reports.{ReportOf}
+use Rattle.promises.specs.TakingOut.{Takes, evictsFrom, LowersNeither, TakenOut}
 use Rattle.maps.specs.Maps.{inMap}
 use Rattle.counters.specs.Counters.{at}
 use Rattle.manager.specs.declared.State.{State}
@@ -189,6 +190,49 @@ FrontPicked s =
     BlockedFront (tableOf s) e q →
     FrontRuns e q (outcomeOf s)
 
+-- document 02, item 7: "In demand 3 an eviction may lower a tenant's places, not its fuel"; no other call of a neighbour or of the
+-- host lowers either
+abbrev pub EvictionTakes : CodeStep → Type 0
+EvictionTakes s =
+    (from serial who : ℕ) →
+    s .call ≡ Evict from serial →
+    Takes (tableOf s) from who (outcomeOf s)
+
+abbrev pub OthersLowerNeither : CodeStep → Type 0
+OthersLowerNeither s =
+    (who : ℕ) →
+    isTenant who ≡ true →
+    isOpen (s .call) ≡ false →
+    eqb (callerOf (s .call)) who ≡ false →
+    evictsFrom who (s .call) ≡ false →
+    LowersNeither (tableOf s) who (outcomeOf s)
+
+-- "Both release counters and place, refund no fuel and answer done": of an entry in any state, and of the caller's own Blocked one
+abbrev pub Evicted : CodeStep → Type 0
+Evicted s =
+    (ahead : List Request) (e : Request) (behind : List Request) →
+    s .call ≡ Evict (e .tenant) (e .serial) →
+    tableOf s .queue ≡ ahead ++ e ∷ behind →
+    TakenOut (tableOf s) ahead e behind 0 (outcomeOf s)
+
+abbrev pub Cancelled : CodeStep → Type 0
+Cancelled s =
+    (ahead : List Request) (e : Request) (behind : List Request) →
+    s .call ≡ Cancel (e .tenant) (e .serial) →
+    tableOf s .queue ≡ ahead ++ e ∷ behind →
+    0 < fuelOf (tableOf s) (e .tenant) →
+    isBlocked (e .mode) ≡ true →
+    TakenOut (tableOf s) ahead e behind 1 (outcomeOf s)
+
+abbrev pub CancelledNoOther : CodeStep → Type 0
+CancelledNoOther s =
+    (ahead : List Request) (e : Request) (behind : List Request) →
+    s .call ≡ Cancel (e .tenant) (e .serial) →
+    tableOf s .queue ≡ ahead ++ e ∷ behind →
+    0 < fuelOf (tableOf s) (e .tenant) →
+    isBlocked (e .mode) ≡ false →
+    number (outcomeOf s) ≡ 11
+
 pub record OfCall (s : CodeStep) : Type 0 where
   -- demand 1
   pub refusals : Refusals s
@@ -212,6 +256,12 @@ pub record OfCall (s : CodeStep) : Type 0 where
   pub admission : Admission s
   pub letting-go : LettingGo s
   pub front-picked : FrontPicked s
+  -- item 7
+  pub eviction-takes : EvictionTakes s
+  pub others-lower-neither : OthersLowerNeither s
+  pub evicted : Evicted s
+  pub cancelled : Cancelled s
+  pub cancelled-no-other : CancelledNoOther s
 
 -- every real call is so
 abbrev pub EveryCall : Type 0

@@ -1,22 +1,25 @@
 -- The demands, over any run of the real calls from an opening, "with neighbours calling as they like". `seenRun` is the run with
 -- its states seen as tables: the calls, the answers and the units burnt in it are the code's own.
-use Prim.Native.Nat.{ℕ}
+use Prim.Native.Nat.{ℕ, _+_, _≤_}
 use mathlib.Core.Path.{_≡_}
 use mathlib.Core.Bool.{true, false, not}
-use mathlib.Core.List.{List, _∷_}
+use mathlib.Core.List.{List, [], _∷_}
+use lib.ListN.{take}
 use Rattle.rules.specs.Lists.{every}
-use Rattle.rules.specs.Table.{isTenant}
-use Rattle.rules.specs.Prices.{clause9}
+use Rattle.rules.specs.Request.{Request}
+use Rattle.rules.specs.Table.{isTenant, withQueue}
+use Rattle.rules.specs.Prices.{clause9, searching}
 use Rattle.rules.specs.Sound.{Each}
-use Rattle.rules.specs.Runs.{Call, isOpen}
-use Rattle.promises.specs.Fuel.{PricesPaid, Balanced, Counted}
+use Rattle.rules.specs.Runs.{Call, Scan, isOpen, number}
+use Rattle.promises.specs.Fuel.{PricesPaid, Balanced, Counted, fuelOf}
 use Rattle.promises.specs.Names.{NamesDiffer, HasLeft, isQueued}
 use Rattle.promises.specs.Order.{KeepsOrder, LeftForGood, RunsInTurn, TotalOrder, QueueInOrder, points}
 use Rattle.promises.specs.Drains.{NoneHangs, draining, Drained}
+use Rattle.promises.specs.TakingOut.{evictions, BehindOnly, TakesOut, WaitsAt, PromotesUpTo}
 use Rattle.promises.specs.Sales.{Ask, begin, shareOne, HeldUp, Meet}
 use Rattle.manager.specs.declared.State.{State}
 use Rattle.manager.specs.State.{view, Sound}
-use Rattle.manager.specs.Runs.{CodeRun, codeOpened, DidCall, Ran, RealRun, seenRun}
+use Rattle.manager.specs.Runs.{CodeRun, codeOpened, DidCall, Ran, RealRun, seen, seenRun}
 use Rattle.demands.specs.OfCalls.{OfCall}
 
 -- "serials ... never given twice": a name that was in the queue and has left does not come back before the next Open
@@ -47,6 +50,30 @@ SecondSale last =
     shareOne r a b ≡ true →
     HeldUp b (view (end .state)) r (gave .said .answer)
 
+-- document 02, item 7: the host alone can empty the queue, by an eviction of each entry from the state as it is
+abbrev pub CanEvict : State → Type 0
+CanEvict s =
+    (rs : List State) (end : CodeRun) →
+    Ran (codeOpened s) (evictions (view s .queue)) rs end →
+    view (end .state) ≡ withQueue (view s) []
+
+-- and whoever conflicted with nothing but the one taken out is promoted by its next Scan with fuel to finish, whatever calls are
+-- made before that Scan
+abbrev pub Freed : State → Type 0
+Freed s =
+    (e f : Request) (c : Call) (out : State) (more : List Call) (rs : List State) (end : CodeRun) (k : ℕ) (gave : State) →
+    let v = view (end .state) in
+    BehindOnly e f (view s) →
+    TakesOut e c →
+    DidCall s c out →
+    number (seen out) ≡ 0 →
+    every (λ c. not (isOpen c)) more ≡ true →
+    Ran (codeOpened out) more rs end →
+    WaitsAt f k v →
+    searching clause9 (take (k + 1) (v .queue)) ≤ fuelOf v (f .tenant) →
+    DidCall (end .state) (Scan (f .tenant)) gave →
+    PromotesUpTo clause9 (f .tenant) k v (seen gave)
+
 pub record OfRun (last : CodeRun) : Type 0 where
   -- every call since the opening, and the state now
   pub calls : Each OfCall (last .steps)
@@ -73,6 +100,9 @@ pub record OfRun (last : CodeRun) : Type 0 where
   pub runs-in-turn : RunsInTurn (seenRun last)
   pub admission-total : TotalOrder (seenRun last .steps)
   pub queue-in-order : Each QueueInOrder (points (seenRun last))
+  -- document 02, item 7: a stuck request can be taken out, and then those run that waited for it alone
+  pub can-evict : CanEvict (last .state)
+  pub freed : Freed (last .state)
 
 abbrev pub EveryRun : Type 0
 EveryRun =

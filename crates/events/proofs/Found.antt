@@ -40,6 +40,8 @@ kind-back Kind.Recheck body = refl
 kind-back Kind.Scan body = refl
 kind-back Kind.Pick body = refl
 kind-back Kind.Deliver body = refl
+kind-back Kind.Evict body = refl
+kind-back Kind.Cancel body = refl
 
 never : {A : Type 0} → _≡_ {A = ℕ} 0 1 → A
 never z = absurd (omega arith)
@@ -100,6 +102,8 @@ withParts file at Kind.Recheck e = Call.Recheck (e .tenant) (e .serial)
 withParts file at Kind.Scan e = Call.Scan (e .tenant)
 withParts file at Kind.Pick e = Call.Pick
 withParts file at Kind.Deliver e = Call.Deliver (e .tenant) (e .serial)
+withParts file at Kind.Evict e = Call.Evict (e .tenant) (e .serial)
+withParts file at Kind.Cancel e = Call.Cancel (e .tenant) (e .serial)
 
 module _ {file : List ℕ} {at : ℕ} {e : Event} {n : ℕ} (f : Found file at e n) where
   pub within-file : n ≤ length file
@@ -140,3 +144,5 @@ module _ {file : List ℕ} {at : ℕ} {e : Event} {n : ℕ} (f : Found file at e
   call-of Kind.Scan is = of-kind Kind.Scan is ∙ cc (ap (λ (x : Event). x .tenant) (says Kind.Scan is))
   call-of Kind.Pick is = of-kind Kind.Pick is
   call-of Kind.Deliver is = of-kind Kind.Deliver is ∙ cc (ap (λ (x : Event). x .tenant) (says Kind.Deliver is), ap (λ (x : Event). x .serial) (says Kind.Deliver is))
+  call-of Kind.Evict is = of-kind Kind.Evict is ∙ cc (ap (λ (x : Event). x .tenant) (says Kind.Evict is), ap (λ (x : Event). x .serial) (says Kind.Evict is))
+  call-of Kind.Cancel is = of-kind Kind.Cancel is ∙ cc (ap (λ (x : Event). x .tenant) (says Kind.Cancel is), ap (λ (x : Event). x .serial) (says Kind.Cancel is))

@@ -5,7 +5,7 @@ use mathlib.Core.Bool.{Bool, true, false, _&&_}
 use mathlib.Core.List.{List, [], _∷_}
 use lib.Dec.{eqb, leb}
 use Rattle.rules.specs.declared.Kind.{Kind}
-use Rattle.rules.specs.declared.Kind.the-variants.{Open, Grant, Begin, Finish, Recheck, Scan, Pick, Deliver}
+use Rattle.rules.specs.declared.Kind.the-variants.{Open, Grant, Begin, Finish, Recheck, Scan, Pick, Deliver, Evict, Cancel}
 use Rattle.rules.specs.Lists.{some}
 use Rattle.rules.specs.CallTable.{Body, bytes, lists, rowOf, kinds}
 use Rattle.rules.proofs.Tests.{if-cases}
@@ -24,6 +24,8 @@ tag-known Recheck = refl
 tag-known Scan = refl
 tag-known Pick = refl
 tag-known Deliver = refl
+tag-known Evict = refl
+tag-known Cancel = refl
 
 -- a number is a tag exactly if some call has it
 abbrev isKnown : Tagged → Bool

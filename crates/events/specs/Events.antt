@@ -99,7 +99,7 @@ tooLong file = ltb 65_536 (length file)
 -- ---- calls
 -- The call of a body that suits its tag. "01 Open: 16 shares. 02 Grant: tenant, amount in four bytes ... 03 Begin: tenant,
 -- awaited, r, then r reads; the rest are writes. 04 Finish, 05 Recheck, 08 Deliver: tenant, serial in two bytes. 06 Scan:
--- tenant. 07 Pick: empty."
+-- tenant. 07 Pick: empty." Document 02, item 7: "bodies as for Finish".
 unfoldable pub callOf : Kind → List ℕ → Call
 callOf Kind.Open body = Call.Open body
 callOf Kind.Grant body = Call.Grant (byteAt body 0) (fourAt body 1)
@@ -110,6 +110,8 @@ callOf Kind.Recheck body = Call.Recheck (byteAt body 0) (twoAt body 1)
 callOf Kind.Scan body = Call.Scan (byteAt body 0)
 callOf Kind.Pick body = Call.Pick
 callOf Kind.Deliver body = Call.Deliver (byteAt body 0) (twoAt body 1)
+callOf Kind.Evict body = Call.Evict (byteAt body 0) (twoAt body 1)
+callOf Kind.Cancel body = Call.Cancel (byteAt body 0) (twoAt body 1)
 
 -- the call of an event that stands at a position: its lists are parts of the file
 abbrev pub callAt : List ℕ → ℕ → Event → Call

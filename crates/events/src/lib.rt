@@ -97,6 +97,8 @@ fn kind_of(tag: u8) -> Tagged
         6 => Tagged::Known(Kind::Scan),
         7 => Tagged::Known(Kind::Pick),
         8 => Tagged::Known(Kind::Deliver),
+        9 => Tagged::Known(Kind::Evict),
+        11 => Tagged::Known(Kind::Cancel),
         _ => Tagged::Unknown,
     }
 }
@@ -131,6 +133,8 @@ fn shape_of(kind: Kind) -> Shape
         Kind::Scan => row(false, false, 1),
         Kind::Pick => row(false, false, 0),
         Kind::Deliver => row(false, false, 3),
+        Kind::Evict => row(false, false, 3),
+        Kind::Cancel => row(false, false, 3),
     }
 }
 
@@ -222,6 +226,8 @@ fn event_at(s: &[u8], at: usize, kind: Kind) -> Event
         Kind::Scan => event(kind, s[at + 3], 0, 0, 0),
         Kind::Pick => event(kind, 0, 0, 0, 0),
         Kind::Deliver => entry_event(s, at, kind),
+        Kind::Evict => entry_event(s, at, kind),
+        Kind::Cancel => entry_event(s, at, kind),
     }
 }
 

@@ -8,7 +8,7 @@ use Rattle.rules.specs.declared.Mode.{Mode}
 use Rattle.rules.specs.declared.Mode.the-variants.{Free, Waiting, Blocked}
 use Rattle.rules.specs.declared.Answer.the-variants.{Refused, Named, BlockedOn}
 use Rattle.rules.specs.declared.Kind.{Kind}
-use Rattle.rules.specs.declared.Kind.the-variants.{Open, Grant, Begin, Finish, Recheck, Scan, Pick, Deliver}
+use Rattle.rules.specs.declared.Kind.the-variants.{Open, Grant, Begin, Finish, Recheck, Scan, Pick, Deliver, Evict, Cancel}
 use Rattle.rules.specs.CallTable.{rowOf}
 use Rattle.rules.specs.Said.{said, wordOf}
 use Rattle.listing.specs.declared.Name.{Name}
@@ -25,6 +25,8 @@ kind-short Recheck = omega arith
 kind-short Scan = omega arith
 kind-short Pick = omega arith
 kind-short Deliver = omega arith
+kind-short Evict = omega arith
+kind-short Cancel = omega arith
 
 pub name-short : (name : Name) → length (nameOf name) ≤ 7
 name-short (Name.Call kind) = kind-short kind

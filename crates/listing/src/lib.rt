@@ -122,6 +122,8 @@ fn with_kind(l: Line, kind: Kind) -> Line
         Kind::Scan => with_text(l, b"scan"),
         Kind::Pick => with_text(l, b"pick"),
         Kind::Deliver => with_text(l, b"deliver"),
+        Kind::Evict => with_text(l, b"evict"),
+        Kind::Cancel => with_text(l, b"cancel"),
     }
 }
 

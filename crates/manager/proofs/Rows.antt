@@ -11,7 +11,7 @@ use Rattle.rules.specs.Lists.{if_then_else_}
 use Rattle.rules.specs.Request.{Request, nobody, requested, reduced, size, isFree, isBlocked}
 use Rattle.rules.specs.Table.{Meter as LawMeter, Table, newMeter, isTenant, meterOf, placesOf, mostFuel}
 use Rattle.rules.specs.Prices.{clause9}
-use Rattle.rules.specs.Refusals.{Row, firstOf, standsAt, isAbsent, entryOf, beginRows, finishRows, recheckRows, scanRows, deliverRows, grantRows}
+use Rattle.rules.specs.Refusals.{Row, firstOf, standsAt, isAbsent, entryOf, beginRows, finishRows, recheckRows, scanRows, deliverRows, evictRows, cancelRows, grantRows}
 use Rattle.rules.specs.Calls.{asked}
 use Rattle.rules.proofs.Tests.{neither}
 use Rattle.rules.proofs.Keeps.{fuel-limit}
@@ -24,7 +24,7 @@ use Rattle.queue.specs.Queue.{Queue, requests}
 use Rattle.queue.proofs.Views.{Slots, requests-length, request-at}
 use Rattle.manager.specs.declared.State.{State}
 use Rattle.manager.specs.State.{view, Sound}
-use Rattle.manager.specs.Rows.{earlyRows, lateRows, beginBy, finishBy, recheckBy, scanBy, deliverBy, grantBy}
+use Rattle.manager.specs.Rows.{earlyRows, lateRows, beginBy, finishBy, recheckBy, scanBy, deliverBy, evictBy, cancelBy, grantBy}
 use Rattle.manager.proofs.Views.{meter-view}
 
 -- ---- what the numbers are
@@ -137,6 +137,16 @@ unfolding deliverBy deliverRows firstOf
 deliver-rows t who serial due false absent e a g = simp (sym e)
 deliver-rows t who serial due true true e a g = simp (sym e, sym a)
 deliver-rows t who serial due true false e a g = simp (sym e, sym a, g refl)
+
+pub evict-rows : (t : Table) (who serial : ℕ) (tenant absent : Bool) → tenant ≡ isTenant who → absent ≡ isAbsent who serial (t .queue) → firstOf (evictBy tenant absent) ≡ firstOf (evictRows t who serial)
+unfolding evictBy evictRows
+evict-rows t who serial tenant absent e a = rw (e, a) refl
+
+pub cancel-rows : (t : Table) (who serial fuel : ℕ) (tenant absent blocked : Bool) → tenant ≡ isTenant who → (isTenant who ≡ true → fuel ≡ meterOf t who .fuel) → absent ≡ isAbsent who serial (t .queue) → (absent ≡ false → blocked ≡ isBlocked (entryOf who serial (t .queue) .mode)) → firstOf (cancelBy tenant fuel absent blocked) ≡ firstOf (cancelRows t who serial)
+unfolding cancelBy cancelRows firstOf
+cancel-rows t who serial fuel false absent blocked e f a g = simp (sym e)
+cancel-rows t who serial fuel true true blocked e f a g = simp (sym e, sym a, f (sym e))
+cancel-rows t who serial fuel true false blocked e f a g = simp (sym e, sym a, f (sym e), g refl)
 
 pub grant-rows : (t : Table) (who fuel amount : ℕ) (tenant : Bool) → tenant ≡ isTenant who → (isTenant who ≡ true → fuel ≡ meterOf t who .fuel) → firstOf (grantBy tenant fuel amount) ≡ firstOf (grantRows t who amount)
 unfolding grantBy grantRows firstOf

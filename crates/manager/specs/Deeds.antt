@@ -39,11 +39,11 @@ pub record Billed (all : List Meter) (who number : ℕ) (r : Bill) : Type 0 wher
   pub answer : r .said .answer ≡ Refused number
   pub burnt : r .said .burnt ≡ (if isTenant who then charge clause9 (meterIn all who .fuel) number else 0)
 
--- the entry at a place has left, which burns nothing, and the call says done
-pub record Gone (s : State) (at : ℕ) (r : State) : Type 0 where
+-- the entry at a place has left, and the call says done, and what it burnt
+pub record Gone (s : State) (at units : ℕ) (r : State) : Type 0 where
   pub state : Becomes (withQueue (view s) (withoutEntry at (view s .queue))) r
   pub answer : r .said .answer ≡ Done
-  pub burnt : r .said .burnt ≡ 0
+  pub burnt : r .said .burnt ≡ units
 
 -- the entry that joins and what Begin answers, by the lowest record that it clashes on
 abbrev pub AdmittedBy : Low → Request → Joining → Type 0

@@ -62,5 +62,16 @@ scanBy tenant fuel = not tenant gives 1 ∷ eqb fuel 0 gives 2 ∷ []
 unfoldable pub deliverBy : Bool → Bool → ℕ → List Row
 deliverBy tenant absent due = not tenant gives 1 ∷ absent gives 10 ∷ eqb due 0 gives 12 ∷ []
 
+unfoldable pub evictBy : Bool → Bool → List Row
+evictBy tenant absent = not tenant gives 1 ∷ absent gives 10 ∷ []
+
+unfoldable pub cancelBy : Bool → ℕ → Bool → Bool → List Row
+cancelBy tenant fuel absent blocked =
+    not tenant gives 1 ∷
+    eqb fuel 0 gives 2 ∷
+    absent gives 10 ∷
+    not blocked gives 11 ∷
+    []
+
 unfoldable pub grantBy : Bool → ℕ → ℕ → List Row
 grantBy tenant fuel amount = not tenant gives 1 ∷ ltb mostFuel (fuel + amount) gives 13 ∷ []

@@ -61,5 +61,5 @@ pub fn finish(s: State, who: u8, serial: u16) -> State
         n.said = said;
         return n;
     }
-    places::released(n, at)
+    places::released(n, at, 0)
 }

@@ -1,11 +1,13 @@
-// The lock manager: eight calls on a state by value. Each gives the state after it, in which its answer and the units burnt
+// The lock manager: ten calls on a state by value. Each gives the state after it, in which its answer and the units burnt
 // are said, and its contract says that these are the law book's.
 use entry::Entry;
 use meter::Meter;
 use rules::Answer;
 
 pub mod begin;
+pub mod cancel;
 pub mod deliver;
+pub mod evict;
 pub mod finish;
 pub mod grant;
 pub mod held;

@@ -10,12 +10,12 @@ use crate::State;
 use rules::Answer;
 
 // The entry at a place leaves: its counters fall, records that nobody is at any more leave the maps, the entries behind it are
-// shifted down, and the last slot is emptied. The call answers done, and burns nothing.
-pub fn released(s: State, at: usize) -> State
+// shifted down, and the last slot is emptied. The call answers done, and says what it burnt.
+pub fn released(s: State, at: usize, burnt: u32) -> State
     requires { ⌜ Tied s ⌝ }
     requires { ⌜ at < length (view s .queue) ⌝ }
     requires { ⌜ Stored (getD (view s .queue) at nobody .reads) (getD (view s .queue) at nobody .writes) ⌝ }
-    ensures { λ r. ⌜ Gone s at r ⌝ }
+    ensures { λ r. ⌜ Gone s at burnt r ⌝ }
 {
     let mut n = s;
     let e = n.entries[at];
@@ -41,7 +41,7 @@ pub fn released(s: State, at: usize) -> State
     n.count = last;
     let said = Said {
         answer: Answer::Done,
-        burnt: 0,
+        burnt: burnt,
     };
     n.said = said;
     n

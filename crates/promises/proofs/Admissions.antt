@@ -17,7 +17,7 @@ use Rattle.rules.specs.Calls.{asked, beginOf}
 use Rattle.rules.specs.Said.{said}
 use Rattle.rules.specs.Sound.{Each, InOrder}
 use Rattle.rules.specs.Runs.{Call, Step, step}
-use Rattle.rules.specs.Runs.Call.{Begin, Finish, Recheck, Scan, Open, Grant, Pick, Deliver}
+use Rattle.rules.specs.Runs.Call.{Begin, Finish, Recheck, Scan, Open, Grant, Pick, Deliver, Evict, Cancel}
 use Rattle.rules.proofs.Tests.{eqb-sym}
 use Rattle.rules.proofs.Order.{each-map, order-both}
 use Rattle.rules.proofs.Clashing.{begun-said}
@@ -55,6 +55,8 @@ module _ (p : Prices) (t : Table) where
   made-admits (Grant who amount) = Each.none
   made-admits Pick = Each.none
   made-admits (Deliver who serial) = Each.none
+  made-admits (Evict who serial) = Each.none
+  made-admits (Cancel who serial) = Each.none
 
 -- ---- further steps
 pub admitted-on : {c : Claim} {steps : List Step} (since : List Step) → AdmittedIn c steps → AdmittedIn c (since ++ steps)

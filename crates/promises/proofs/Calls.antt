@@ -1,43 +1,31 @@
 -- Promise 4: a tenant's calls that are not answered dry number at most the fuel granted to it. Each of them burns a unit,
 -- but for a Finish that succeeds: its unit was burnt by its request, and it gives back the place that the request took. So
 -- over any run those calls and the places held number at most what was burnt.
-use Prim.Native.Nat.{ℕ, _+_, _≤_, _<_}
+use Prim.Native.Nat.{ℕ, _+_, _≤_}
 use mathlib.Core.Path.{_≡_, refl, sym, ap, _∙_}
 use mathlib.Core.Bool.{Bool, true, false, _&&_, not, true≢false, false≢true}
-use mathlib.Core.List.{List, [], _∷_}
-use native.Mathlib.Nat.{not-suc-le-zero, le-of-suc-le-suc}
+use mathlib.Core.List.{List, []}
 use native.Mathlib.Omega.{arith}
 use lib.Dec.{eqb}
-use lib.ListN.{length, getD, set}
-use borrow.Author.Tests.{eqb-true, ne-eqb, leb-false}
+use borrow.Author.Tests.{eqb-true, ne-eqb}
 use Rattle.rules.specs.declared.Answer.{Answer}
-use Rattle.rules.specs.Lists.{if_then_else_, countIf, total, before}
-use Rattle.rules.specs.Request.{Request, nobody, reduced, size, isNamed, promoted, admitted, delivered}
+use Rattle.rules.specs.Lists.{if_then_else_, countIf, total}
+use Rattle.rules.specs.Request.{Request, reduced, size, admitted}
 use Rattle.rules.specs.Table.{Table, isTenant, placesOf, fresh}
 use Rattle.rules.specs.Prices.{Prices, admission, searching, charge}
-use Rattle.rules.specs.Refusals.{firstOf, standsAt, entryOf, beginRows, finishRows, recheckRows, scanRows, deliverRows, grantRows, openRows}
-use Rattle.rules.specs.Counters.{cx, cs, alone}
-use Rattle.rules.specs.Scan.{End, found, nothing, short}
-use Rattle.rules.specs.Calls.{Outcome, tenantCall, asked, joined, withoutEntry, withEntry, found-table, search, pickEnd, beginOf, finishOf, recheckOf, scanOf, openOf, grantOf, pickOf, deliverOf}
+use Rattle.rules.specs.Refusals.{firstOf, isAbsent, entryOf, beginRows, finishRows, recheckRows, scanRows, deliverRows, evictRows, cancelRows, grantRows, openRows}
+use Rattle.rules.specs.Calls.{Outcome, tenantCall, hostCall, asked, joined, gone, found-table, found-answer, search, pickEnd, beginOf, finishOf, recheckOf, scanOf, openOf, grantOf, pickOf, deliverOf, evictOf, cancelOf}
 use Rattle.rules.specs.Said.{said}
 use Rattle.rules.specs.Runs.{Call, step, callerOf, isOpen, isDryAnswer, burntBy, notDry}
-use Rattle.rules.specs.Runs.Call.{Begin, Finish, Recheck, Scan, Open, Grant, Pick, Deliver}
-use Rattle.rules.proofs.Tests.{both, and-false, one, if-either, if-cases}
-use Rattle.rules.proofs.Lists.{count-last, count-without, count-set}
-use Rattle.rules.proofs.Requests.{admitted-as, delivered-as}
-use Rattle.rules.proofs.Refusals.{pass}
+use Rattle.rules.specs.Runs.Call.{Begin, Finish, Recheck, Scan, Open, Grant, Pick, Deliver, Evict, Cancel}
+use Rattle.rules.proofs.Tests.{and-false, one, if-either, if-cases}
+use Rattle.rules.proofs.Refusals.{finish-passes, evict-passes, cancel-passes}
 use Rattle.rules.proofs.Costly.{costly-low, charge-unit}
 use Rattle.promises.specs.Fuel.{Fair, reached, fuelOf, NotDry}
-use Rattle.promises.proofs.Refusals.{Verdict, begin-verdict, finish-verdict, recheck-verdict, scan-verdict}
+use Rattle.promises.proofs.Refusals.{Verdict, begin-verdict, finish-verdict, recheck-verdict, scan-verdict, cancel-verdict}
 use Rattle.promises.proofs.Runs.{any-run}
+use Rattle.promises.proofs.Held.{rechecked, held-joined, held-gone, held-found, held-rechecked, held-delivered}
 use Rattle.promises.proofs.Fuel.{balance}
-
--- the element that stands where the first stands that passes the test passes it
-before-finds : {A : Type 0} (g : A → Bool) (xs : List A) (d : A) → before g xs < length xs → g (getD xs (before g xs) d) ≡ true
-unfolding before
-before-finds g [] d = λ lt. absurd (not-suc-le-zero lt)
-before-finds g (x ∷ xs) d =
-    if-cases (λ (n : ℕ). n < length (x ∷ xs) → g (getD (x ∷ xs) n d) ≡ true) (g x) (λ e. λ lt. e) (λ e. λ lt. before-finds g xs d (le-of-suc-le-suc lt))
 
 -- an own call pays for itself, a request for its Finish too
 own-units : (b : Bool) (units : ℕ) → 1 ≤ units → one b ≤ (if b then units else 0)
@@ -80,78 +68,53 @@ module _ {p : Prices} (f : Fair p) (t : Table) (who : ℕ) (h : isTenant who ≡
   abbrev held : List Request → ℕ
   held q = placesOf q who
 
-  -- an entry takes the place of another of the same tenant
-  held-set : (at : ℕ) (e : Request) → e .tenant ≡ getD (t .queue) at nobody .tenant → held (set (t .queue) at e) ≡ held (t .queue)
-  held-set at e same = count-set (λ (a : Request). eqb (a .tenant) who) (t .queue) at e nobody (ap (λ (n : ℕ). eqb n who) same)
-
-  held-found : (end : End) → held (found-table t end .queue) ≡ held (t .queue)
-  unfolding promoted
-  held-found (found at) = held-set at (promoted (getD (t .queue) at nobody)) refl
-  held-found nothing = refl
-  held-found short = refl
-
   -- a request that joins has paid for two calls
   begin-does : (e : Request) → let entry = admitted (t .queue) e in one (eqb (e .tenant) who) + held (joined t entry .queue) ≤ held (t .queue) + (if eqb (e .tenant) who then admission p e else 0)
   begin-does e =
-      let same : eqb (admitted (t .queue) e .tenant) who ≡ eqb (e .tenant) who = ap (λ (a : Request). eqb (a .tenant) who) (admitted-as (t .queue) e) in
-      let more = count-last (λ (a : Request). eqb (a .tenant) who) (t .queue) (admitted (t .queue) e) in
-      omega (arith, more, ap one same, both-units (eqb (e .tenant) who) (admission p e) (f .request (size e)))
+      omega (arith, held-joined t who e, both-units (eqb (e .tenant) who) (admission p e) (f .request (size e)))
 
-  -- an entry that leaves gives its place back
-  finish-does : (caller serial : ℕ) → firstOf (finishRows t caller serial) ≡ 0 → one (eqb caller who) + held (withoutEntry (standsAt caller serial (t .queue)) (t .queue)) ≤ held (t .queue) + (if eqb caller who then p .finish else 0)
-  unfolding finishRows
-  finish-does caller serial z =
-      let a = pass _ 1 _ refl z in
-      let b = pass _ 2 _ refl (a .1) in
-      let c = pass _ 10 _ refl (b .1) in
-      let at = standsAt caller serial (t .queue) in
-      let e = entryOf caller serial (t .queue) in
-      let there : at < length (t .queue) = leb-false (length (t .queue)) at (c .0) in
-      let name = both (eqb (e .tenant) caller) (eqb (e .serial) serial) (before-finds (isNamed caller serial) (t .queue) nobody there) in
-      let same : eqb (e .tenant) who ≡ eqb caller who = ap (λ (n : ℕ). eqb n who) (eqb-true (e .tenant) caller (name .0)) in
-      omega (arith, count-without (λ (a : Request). eqb (a .tenant) who) (t .queue) at nobody there, ap one same)
+  -- an entry that leaves gives its place back, and so has paid for the call, whatever that burns
+  leaves-does : (caller serial units : ℕ) → isAbsent caller serial (t .queue) ≡ false → one (eqb caller who) + held (gone t caller serial .queue) ≤ held (t .queue) + (if eqb caller who then units else 0)
+  leaves-does caller serial units present = omega (arith, held-gone t who caller serial present)
 
   -- a Recheck or a search burns a unit and changes no place
-  recheck-does : (caller serial : ℕ) → let e = entryOf caller serial (t .queue) in one (eqb caller who) + held ((if alone (cx (t .queue)) (cs (t .queue)) e then withEntry t (standsAt caller serial (t .queue)) (promoted e) else t) .queue) ≤ held (t .queue) + (if eqb caller who then p .recheck (size e) else 0)
-  unfolding promoted
+  recheck-does : (caller serial : ℕ) → let e = entryOf caller serial (t .queue) in one (eqb caller who) + held (rechecked t caller serial .queue) ≤ held (t .queue) + (if eqb caller who then p .recheck (size e) else 0)
   recheck-does caller serial =
       let e = entryOf caller serial (t .queue) in
-      let units : one (eqb caller who) ≤ (if eqb caller who then p .recheck (size e) else 0) = own-units (eqb caller who) (p .recheck (size e)) (f .recheck (size e)) in
-      if-either (λ (u : Table). one (eqb caller who) + held (u .queue) ≤ held (t .queue) + (if eqb caller who then p .recheck (size e) else 0)) (alone (cx (t .queue)) (cs (t .queue)) e)
-      (omega (arith, held-set (standsAt caller serial (t .queue)) (promoted e) refl))
-      (omega arith)
+      omega (arith, held-rechecked t who caller serial, own-units (eqb caller who) (p .recheck (size e)) (f .recheck (size e)))
 
   scan-does : (caller : ℕ) → let w = search p t caller in one (eqb caller who) + held (found-table t (w .end) .queue) ≤ held (t .queue) + (if eqb caller who then searching p (w .looked) else 0)
   scan-does caller =
       let w = search p t caller in
-      omega (arith, held-found (w .end), own-units (eqb caller who) (searching p (w .looked)) (omega (arith, f .search)))
+      omega (arith, held-found t who (w .end), own-units (eqb caller who) (searching p (w .looked)) (omega (arith, f .search)))
 
-  -- a host's call is nobody's own
-  host-paid : (o : Outcome) → held (o .table .queue) ≤ held (t .queue) → Paid 0 o
-  host-paid o same = rw (outsider 0 refl) (omega arith)
+  -- a host's call is nobody's own, and leaves the places as they are or takes one
+  host-paid : (z : ℕ) (deed : Table) (answer : Answer) (taken : ℕ) → (z ≡ 0 → held (t .queue) ≡ held (deed .queue) + taken) → Paid 0 (hostCall t z deed answer)
+  host-paid z deed answer taken fewer = rw (outsider 0 refl) (if-cases (λ (u : Table). 0 + held (u .queue) ≤ held (t .queue) + 0) (eqb z 0) (λ e. omega (arith, fewer (eqb-true z 0 e))) (λ e. omega arith))
 
-  deliver-held : (w serial : ℕ) → held (deliverOf t w serial .table .queue) ≤ held (t .queue)
-  unfolding deliverOf
-  deliver-held w serial =
-      let same = held-set (standsAt w serial (t .queue)) (delivered (entryOf w serial (t .queue))) (ap (λ (r : Request). r .tenant) (delivered-as (entryOf w serial (t .queue)))) in
-      if-either (λ (u : Table). held (u .queue) ≤ held (t .queue)) (eqb (firstOf (deliverRows t w serial)) 0) (omega (arith, same)) (omega arith)
+  host-same : (z : ℕ) (deed : Table) (answer : Answer) → held (deed .queue) ≡ held (t .queue) → Paid 0 (hostCall t z deed answer)
+  host-same z deed answer same = host-paid z deed answer 0 (λ e. omega (arith, same))
 
   -- any call but Open
   paid : (c : Call) → isOpen c ≡ false → Paid (callerOf c) (step p t c)
-  unfolding beginOf finishOf recheckOf scanOf grantOf pickOf
+  unfolding beginOf finishOf recheckOf scanOf grantOf pickOf deliverOf evictOf cancelOf
   paid (Begin w awaited reads writes) shut =
       let e = asked t w awaited reads writes in
       tenant-paid w _ _ _ (firstOf (beginRows p t e)) (begin-verdict p t e) (λ z. begin-does (reduced e))
   paid (Finish w serial) shut =
-      tenant-paid w _ _ _ (firstOf (finishRows t w serial)) (finish-verdict t w serial) (finish-does w serial)
+      tenant-paid w _ _ _ (firstOf (finishRows t w serial)) (finish-verdict t w serial) (λ z. leaves-does w serial (p .finish) (finish-passes t w serial z .1))
   paid (Recheck w serial) shut =
       tenant-paid w _ _ _ (firstOf (recheckRows p t w serial)) (recheck-verdict t w p serial) (λ z. recheck-does w serial)
   paid (Scan w) shut =
       tenant-paid w _ _ _ (firstOf (scanRows t w)) (scan-verdict t w) (λ z. scan-does w)
   paid (Open shares) shut = absurd (true≢false shut)
-  paid (Grant w amount) shut = host-paid (grantOf t w amount) (if-either (λ (u : Table). held (u .queue) ≤ held (t .queue)) (eqb (firstOf (grantRows t w amount)) 0) (omega arith) (omega arith))
-  paid Pick shut = host-paid (pickOf t) (omega (arith, held-found (pickEnd (t .queue))))
-  paid (Deliver w serial) shut = host-paid (deliverOf t w serial) (deliver-held w serial)
+  paid (Grant w amount) shut = host-same (firstOf (grantRows t w amount)) _ _ refl
+  paid Pick shut = let end = pickEnd (t .queue) in host-same 0 (found-table t end) (found-answer (t .queue) end) (held-found t who end)
+  paid (Deliver w serial) shut = host-same (firstOf (deliverRows t w serial)) _ _ (held-delivered t who w serial)
+  paid (Evict w serial) shut =
+      host-paid (firstOf (evictRows t w serial)) _ _ _ (λ z. held-gone t who w serial (evict-passes t w serial z .1))
+  paid (Cancel w serial) shut =
+      tenant-paid w _ _ _ (firstOf (cancelRows t w serial)) (cancel-verdict t w serial) (λ z. leaves-does w serial (p .cancel) (cancel-passes t w serial z .there))
 
 -- ---- over a run
 pub open-empty : (shares : List ℕ) → openOf shares .table .queue ≡ []

@@ -11,14 +11,14 @@ use Rattle.rules.specs.Lists.{if_then_else_}
 use Rattle.rules.specs.Request.{Request, nobody, reduced, conflictsAny, promoted, admitted, delivered}
 use Rattle.rules.specs.Table.{Meter, Table, noMeter, meterOf, withMeter, withQueue, numbered, granted, spent, burn}
 use Rattle.rules.specs.Prices.{Prices}
-use Rattle.rules.specs.Refusals.{firstOf, standsAt, entryOf, beginRows, finishRows, recheckRows, scanRows, deliverRows, grantRows}
+use Rattle.rules.specs.Refusals.{firstOf, standsAt, entryOf, beginRows, finishRows, recheckRows, scanRows, deliverRows, evictRows, cancelRows, grantRows}
 use Rattle.rules.specs.Counters.{cx, cs, alone}
 use Rattle.rules.specs.Scan.{End, found, nothing, short}
-use Rattle.rules.specs.Calls.{asked, begun, joined, withoutEntry, found-table, search, pickEnd, beginOf, finishOf, recheckOf, scanOf, grantOf, pickOf, deliverOf}
+use Rattle.rules.specs.Calls.{asked, begun, joined, withoutEntry, found-table, search, pickEnd, beginOf, finishOf, recheckOf, scanOf, grantOf, pickOf, deliverOf, evictOf, cancelOf}
 use Rattle.rules.specs.Sound.{givenBy}
 use Rattle.rules.specs.Said.{said}
 use Rattle.rules.specs.Runs.{Call, step, isOpen}
-use Rattle.rules.specs.Runs.Call.{Begin, Finish, Recheck, Scan, Open, Grant, Pick, Deliver}
+use Rattle.rules.specs.Runs.Call.{Begin, Finish, Recheck, Scan, Open, Grant, Pick, Deliver, Evict, Cancel}
 use Rattle.rules.proofs.Tests.{if-either}
 use Rattle.rules.proofs.Requests.{delivered-as}
 use Rattle.rules.proofs.Clashing.{begun-said}
@@ -56,7 +56,7 @@ module _ (p : Prices) (t : Table) where
   maybe b deed h = if-either (λ (u : Table). Change t [] (u .queue)) b {x = deed} {y = t} h Change.same
 
   pub changed : (c : Call) → isOpen c ≡ false → let o = step p t c in Change t (admittedBy c (o .answer)) (o .table .queue)
-  unfolding finishOf recheckOf scanOf grantOf pickOf deliverOf promoted
+  unfolding finishOf recheckOf scanOf grantOf pickOf deliverOf evictOf cancelOf promoted
   changed (Begin who awaited reads writes) shut = begin-change who awaited reads writes
   changed (Finish who serial) shut = maybe (eqb (firstOf (finishRows t who serial)) 0) _ (Change.leaves (standsAt who serial (t .queue)))
   changed (Recheck who serial) shut =
@@ -69,6 +69,8 @@ module _ (p : Prices) (t : Table) where
   changed (Deliver who serial) shut =
       let e = entryOf who serial (t .queue) in
       maybe (eqb (firstOf (deliverRows t who serial)) 0) _ (Change.changes (standsAt who serial (t .queue)) (delivered e) (ap claimOf (delivered-as e)))
+  changed (Evict who serial) shut = maybe (eqb (firstOf (evictRows t who serial)) 0) _ (Change.leaves (standsAt who serial (t .queue)))
+  changed (Cancel who serial) shut = maybe (eqb (firstOf (cancelRows t who serial)) 0) _ (Change.leaves (standsAt who serial (t .queue)))
 
 -- ---- no serial is taken back
 view-grows : {A : Type 0} (f : A → ℕ) (l : List A) (i j : ℕ) (a d : A) → f (getD l i d) ≤ f a → f (getD l j d) ≤ f (getD (set l i a) j d)
@@ -107,7 +109,7 @@ module _ (p : Prices) (t : Table) where
   joined-grown e = record { more = meter-grows t (e .tenant) (numbered (meterOf t (e .tenant))) (omega arith) }
 
   pub grown : (c : Call) → isOpen c ≡ false → Grown t (step p t c .table)
-  unfolding beginOf finishOf recheckOf scanOf grantOf pickOf deliverOf
+  unfolding beginOf finishOf recheckOf scanOf grantOf pickOf deliverOf evictOf cancelOf
   grown (Begin w awaited reads writes) shut =
       let e = asked t w awaited reads writes in
       grown-burnt w _ (maybe-grown (eqb (firstOf (beginRows p t e)) 0) (joined-grown (admitted (t .queue) (reduced e))))
@@ -121,6 +123,8 @@ module _ (p : Prices) (t : Table) where
       maybe-grown (eqb (firstOf (grantRows t w amount)) 0) (record { more = meter-grows t w (granted (meterOf t w) amount) (omega arith) })
   grown Pick shut = found-grown (pickEnd (t .queue))
   grown (Deliver w serial) shut = maybe-grown (eqb (firstOf (deliverRows t w serial)) 0) (grown-queue _)
+  grown (Evict w serial) shut = maybe-grown (eqb (firstOf (evictRows t w serial)) 0) (grown-queue _)
+  grown (Cancel w serial) shut = grown-burnt w _ (maybe-grown (eqb (firstOf (cancelRows t w serial)) 0) (grown-queue _))
 
 pub grown-twice : {t u w : Table} → Grown t u → Grown u w → Grown t w
 grown-twice g h = record { more = λ who. omega (arith, g .more who, h .more who) }

@@ -20,7 +20,7 @@ use Rattle.rules.specs.Calls.{withoutEntry, pickOf, deliverOf}
 use Rattle.rules.specs.Said.{said}
 use Rattle.rules.specs.Sound.{Each, Fit, SoundAny, givenBy}
 use Rattle.rules.specs.Runs.{Call, Step, Run, step, isOpen, after, runOf, number}
-use Rattle.rules.specs.Runs.Call.{Begin, Finish, Recheck, Scan, Open, Grant, Pick, Deliver}
+use Rattle.rules.specs.Runs.Call.{Begin, Finish, Recheck, Scan, Open, Grant, Pick, Deliver, Evict, Cancel}
 use Rattle.rules.proofs.Tests.{if-either, if-cases}
 use Rattle.rules.proofs.Requests.{delivered-as}
 use Rattle.rules.proofs.Order.{each-map, each-all, each-first}
@@ -60,6 +60,8 @@ drain-shut (Open shares) d = absurd (false≢true d)
 drain-shut (Grant who amount) d = refl
 drain-shut Pick d = refl
 drain-shut (Deliver who serial) d = refl
+drain-shut (Evict who serial) d = absurd (false≢true d)
+drain-shut (Cancel who serial) d = absurd (false≢true d)
 
 -- what their run is
 record Goes (p : Prices) (r : Run) (cs : List Call) (u : Table) : Type 0 where

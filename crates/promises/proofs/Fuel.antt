@@ -14,18 +14,18 @@ use Rattle.rules.specs.Lists.{if_then_else_, total}
 use Rattle.rules.specs.Request.{Request, reduced, size, admitted}
 use Rattle.rules.specs.Table.{Meter, Table, isTenant, noMeter, meterOf, withQueue, withMeter, spent, granted, numbered, newMeter, fresh}
 use Rattle.rules.specs.Prices.{Prices, admission, searching}
-use Rattle.rules.specs.Refusals.{firstOf, entryOf, beginRows, finishRows, recheckRows, scanRows, deliverRows, grantRows, openRows}
+use Rattle.rules.specs.Refusals.{firstOf, entryOf, beginRows, finishRows, recheckRows, scanRows, deliverRows, evictRows, cancelRows, grantRows, openRows}
 use Rattle.rules.specs.Counters.{cx, cs, alone}
 use Rattle.rules.specs.Scan.{End, found, nothing, short}
-use Rattle.rules.specs.Calls.{Outcome, tenantCall, hostCall, asked, joined, found-table, search, pickEnd, beginOf, finishOf, recheckOf, scanOf, openOf, grantOf, pickOf, deliverOf}
+use Rattle.rules.specs.Calls.{Outcome, tenantCall, hostCall, asked, joined, found-table, search, pickEnd, beginOf, finishOf, recheckOf, scanOf, openOf, grantOf, pickOf, deliverOf, evictOf, cancelOf}
 use Rattle.rules.specs.Said.{said}
 use Rattle.rules.specs.Sound.{SoundAny}
 use Rattle.rules.specs.Runs.{Call, step, eventOf, number, callerOf, priceOf, isOpen, burntBy, pricesBy, grantedTo}
-use Rattle.rules.specs.Runs.Call.{Begin, Finish, Recheck, Scan, Open, Grant, Pick, Deliver}
+use Rattle.rules.specs.Runs.Call.{Begin, Finish, Recheck, Scan, Open, Grant, Pick, Deliver, Evict, Cancel}
 use Rattle.rules.proofs.Tests.{if-either, if-cases}
 use Rattle.rules.proofs.Meters.{Sixteen, tenant-range, meter-own, meter-other}
 use Rattle.rules.proofs.Prices.{search-pays}
-use Rattle.rules.proofs.Refusals.{pass, stranger, free-of-charge, begin-passes, grant-passes}
+use Rattle.rules.proofs.Refusals.{pass, stranger, free-of-charge, begin-passes, grant-passes, cancel-passes}
 use Rattle.rules.proofs.Costly.{charge-fits}
 use Rattle.rules.proofs.Keeps.{burn-none}
 use Rattle.promises.specs.Fuel.{Fair, fuelOf, gift, BurnsPrice, BurnsPrices, OwnCall, OtherCall, Balance}
@@ -35,7 +35,7 @@ use Rattle.promises.proofs.Runs.{any-run}
 -- ---- 1 "the prices of its own calls"
 -- a call burns its price
 pub burns-price : (p : Prices) → BurnsPrice p
-unfolding priceOf beginOf finishOf recheckOf scanOf openOf grantOf pickOf deliverOf
+unfolding priceOf beginOf finishOf recheckOf scanOf openOf grantOf pickOf deliverOf evictOf cancelOf
 burns-price p t (Begin who awaited reads writes) = refl
 burns-price p t (Finish who serial) = refl
 burns-price p t (Recheck who serial) = refl
@@ -44,6 +44,8 @@ burns-price p t (Open shares) = refl
 burns-price p t (Grant who amount) = refl
 burns-price p t Pick = refl
 burns-price p t (Deliver who serial) = refl
+burns-price p t (Evict who serial) = refl
+burns-price p t (Cancel who serial) = refl
 
 -- and so the tenant's calls of a run burn the sum of theirs
 pub burns-prices : (p : Prices) → BurnsPrices p
@@ -200,7 +202,7 @@ module _ {p : Prices} (f : Fair p) {t : Table} (s : SoundAny t) (who : ℕ) (h :
 
   -- any call but Open; the fuel does not depend on what it answers
   moves : (c : Call) → isOpen c ≡ false → Moves p t who c
-  unfolding beginOf finishOf recheckOf scanOf pickOf deliverOf beginRows finishRows recheckRows scanRows
+  unfolding beginOf finishOf recheckOf scanOf pickOf deliverOf evictOf cancelOf beginRows finishRows recheckRows scanRows cancelRows
   moves (Begin w awaited reads writes) shut =
       let e = asked t w awaited reads writes in
       tenant-moves s p w (firstOf (beginRows p t e)) (admission p (reduced e)) Ok (joined-kept s (admitted (t .queue) (reduced e))) (stranger w _) (λ z. begin-passes p t e z .fuel) who _ h (none-given (Begin w awaited reads writes) refl)
@@ -216,6 +218,9 @@ module _ {p : Prices} (f : Fair p) {t : Table} (s : SoundAny t) (who : ℕ) (h :
   moves Pick shut =
       host-moves 0 Ok _ (found-kept s (pickEnd (t .queue))) (none-given Pick refl)
   moves (Deliver w serial) shut = host-moves (firstOf (deliverRows t w serial)) Ok _ (queue-kept s _) (none-given (Deliver w serial) refl)
+  moves (Evict w serial) shut = host-moves (firstOf (evictRows t w serial)) Ok _ (queue-kept s _) (none-given (Evict w serial) refl)
+  moves (Cancel w serial) shut =
+      tenant-moves s p w (firstOf (cancelRows t w serial)) (p .cancel) Ok (queue-kept s _) (stranger w _) (λ z. omega (arith, f .cancel, cancel-passes t w serial z .fuelled)) who _ h (none-given (Cancel w serial) refl)
 
 -- a host's call is no tenant's own
 no-host : (who : ℕ) → isTenant who ≡ true → eqb 0 who ≡ true → ⊥
@@ -231,6 +236,8 @@ own-call-is (Open shares) who h e = absurd (no-host who h e)
 own-call-is (Grant w amount) who h e = absurd (no-host who h e)
 own-call-is Pick who h e = absurd (no-host who h e)
 own-call-is (Deliver w serial) who h e = absurd (no-host who h e)
+own-call-is (Evict w serial) who h e = absurd (no-host who h e)
+own-call-is (Cancel w serial) who h e = (refl, refl)
 
 module _ {p : Prices} (f : Fair p) where
   -- 1 the tenant's own call lowers its fuel by what it burns

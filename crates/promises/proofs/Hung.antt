@@ -16,7 +16,7 @@ use Rattle.rules.specs.Prices.{Prices, charge, costly}
 use Rattle.rules.specs.Refusals.{firstOf, standsAt, entryOf, isAbsent, openRows, grantRows, beginRows, finishRows, deliverRows}
 use Rattle.rules.specs.Calls.{openOf, grantOf, beginOf, finishOf, pickOf, deliverOf}
 use Rattle.rules.specs.Runs.{Call, Run, step, from, after, runOf}
-use Rattle.rules.specs.Runs.Call.{Begin, Finish, Recheck, Scan, Open, Grant, Pick, Deliver}
+use Rattle.rules.specs.Runs.Call.{Begin, Finish, Recheck, Scan, Open, Grant, Pick, Deliver, Evict, Cancel}
 use Rattle.rules.proofs.Tests.{both, if-cases}
 use Rattle.rules.proofs.Refusals.{finish-passes, deliver-passes, here}
 use Rattle.promises.specs.Drains.{isDraining}
@@ -43,6 +43,8 @@ module _ (p : Prices) (t : Table) (is : t .queue ≡ hung ∷ []) where
   stays-at (Open given) d = absurd (false≢true d)
   stays-at (Grant who amount) d = absurd (false≢true d)
   stays-at Pick d = rw is refl
+  stays-at (Evict who serial) d = absurd (false≢true d)
+  stays-at (Cancel who serial) d = absurd (false≢true d)
   stays-at (Deliver who serial) d =
       if-cases (λ (u : Table). u .queue ≡ hung ∷ []) (eqb (firstOf (deliverRows t who serial)) 0)
       (λ z. let k = deliver-passes t who serial (eqb-true _ 0 z) in absurd (true≢false (ap (λ (r : Request). eqb (r .due) 0) (sym (only-entry who serial (k .0))) ∙ k .1)))

@@ -2,6 +2,7 @@ pub mod Bench
 pub mod Refusals
 pub mod Runs
 pub mod Fuel
+pub mod Held
 pub mod Calls
 pub mod Search
 pub mod Admitted
@@ -13,6 +14,8 @@ pub mod Left
 pub mod Points
 pub mod Turns
 pub mod Order
+pub mod TakingOut
+pub mod NextScan
 pub mod Sales
 pub mod Reports
 pub mod Drains

@@ -11,11 +11,11 @@ use Rattle.rules.specs.Records.{member, onlyRead}
 use Rattle.rules.specs.Request.{size}
 use Rattle.rules.specs.Table.{Table}
 use Rattle.rules.specs.Prices.{clause9, looks, searching}
-use Rattle.rules.specs.Refusals.{firstOf, beginRows, finishRows, recheckRows, scanRows}
-use Rattle.rules.specs.Calls.{toPay, asked, search, beginOf, finishOf, recheckOf, scanOf, openOf, grantOf, pickOf, deliverOf}
+use Rattle.rules.specs.Refusals.{firstOf, beginRows, finishRows, recheckRows, scanRows, cancelRows}
+use Rattle.rules.specs.Calls.{toPay, asked, search, beginOf, finishOf, recheckOf, scanOf, openOf, grantOf, pickOf, deliverOf, evictOf, cancelOf}
 use Rattle.rules.specs.Said.{said}
 use Rattle.rules.specs.Runs.{Call, step, roleOf, callerOf, isOpen, number}
-use Rattle.rules.specs.Runs.Call.{Begin, Finish, Recheck, Scan, Open, Grant, Pick, Deliver}
+use Rattle.rules.specs.Runs.Call.{Begin, Finish, Recheck, Scan, Open, Grant, Pick, Deliver, Evict, Cancel}
 use Rattle.rules.proofs.Tests.{if-cases}
 use Rattle.rules.proofs.Reduced.{keep-count}
 use Rattle.rules.proofs.Costly.{costly-range}
@@ -35,7 +35,7 @@ by-refusal t c shut passes same =
     if-cases (λ (n : ℕ). o .burnt ≡ n) (eqb (number o) 0) passes (λ h. refuses9 t c shut h .burnt ∙ same)
 
 costs : (t : Table) (c : Call) → Costs9 t c (step clause9 t c)
-unfolding onlyRead cost9 beginOf finishOf recheckOf scanOf openOf grantOf pickOf deliverOf looks size
+unfolding onlyRead cost9 beginOf finishOf recheckOf scanOf openOf grantOf pickOf deliverOf evictOf cancelOf looks size
 costs t (Begin who awaited reads writes) =
     by-refusal t (Begin who awaited reads writes) refl (λ h. unrefused t who (firstOf (beginRows clause9 t (asked t who awaited reads writes))) _ _ h ∙ omega (arith, keep-count (λ (r : ℕ). not (member r writes)) reads)) refl
 costs t (Finish who serial) =
@@ -47,6 +47,9 @@ costs t (Open shares) = sym (same-if (eqb (number (openOf shares)) 0) 0)
 costs t (Grant who amount) = sym (same-if (eqb (number (grantOf t who amount)) 0) 0)
 costs t Pick = sym (same-if (eqb (number (pickOf t)) 0) 0)
 costs t (Deliver who serial) = sym (same-if (eqb (number (deliverOf t who serial)) 0) 0)
+costs t (Evict who serial) = sym (same-if (eqb (number (evictOf t who serial)) 0) 0)
+costs t (Cancel who serial) =
+    by-refusal t (Cancel who serial) refl (λ h. unrefused t who (firstOf (cancelRows t who serial)) _ _ h) refl
 
 pub prices9 : Prices9
 prices9 t c = (costs t c, sym (burns-price clause9 t c))

@@ -20,6 +20,8 @@ use Rattle.promises.proofs.Sales.{sellers-conflict, second-waits}
 use Rattle.promises.proofs.Reports.{reports, begin-alone}
 use Rattle.promises.proofs.Turns.{admission-total, queue-order}
 use Rattle.promises.proofs.Order.{order, stays-away, run-in-order}
+use Rattle.promises.proofs.TakingOut.{eviction-takes, others-lower-neither, evicts, host-empties, cancels, cancels-no-other}
+use Rattle.promises.proofs.NextScan.{next-scan}
 
 pub promises : {p : Prices} → Fair p → Promises p
 promises {p} f = record {
@@ -58,12 +60,20 @@ promises {p} f = record {
   run-in-order = run-in-order p;
   admission-total = admission-total p;
   queue-order = queue-order p;
+  eviction-takes = eviction-takes;
+  others-lower-neither = others-lower-neither f;
+  evicts = evicts;
+  host-empties = host-empties p;
+  cancels = cancels p;
+  cancels-no-other = cancels-no-other p;
+  next-scan = next-scan f;
 }
 
 pub clause9-fair : Fair clause9
 clause9-fair = record {
   request = λ n. omega arith;
   finish = refl;
+  cancel = refl;
   search = refl;
   recheck = λ n. omega arith;
   refused = omega arith;

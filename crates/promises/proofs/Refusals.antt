@@ -15,13 +15,13 @@ use Rattle.rules.specs.Records.{member}
 use Rattle.rules.specs.Request.{Request, reduced, isFree, isBlocked, promoted}
 use Rattle.rules.specs.Table.{Meter, Table, isTenant, noMeter, meterOf, spent, burn, fresh}
 use Rattle.rules.specs.Prices.{Prices, clause9, searching, costly, charge}
-use Rattle.rules.specs.Refusals.{Row, _gives_, firstOf, isDry, isAbsent, entryOf, beginRows, finishRows, recheckRows, scanRows, deliverRows, grantRows, openRows}
+use Rattle.rules.specs.Refusals.{Row, _gives_, firstOf, isDry, isAbsent, entryOf, beginRows, finishRows, recheckRows, scanRows, deliverRows, evictRows, cancelRows, grantRows, openRows}
 use Rattle.rules.specs.Counters.{cx, cs, alone}
 use Rattle.rules.specs.Scan.{End, found, nothing, short}
-use Rattle.rules.specs.Calls.{Outcome, tenantCall, hostCall, named, asked, found-table, found-answer, search, pickEnd, beginOf, finishOf, recheckOf, scanOf, openOf, grantOf, pickOf, deliverOf}
+use Rattle.rules.specs.Calls.{Outcome, tenantCall, hostCall, named, asked, found-table, found-answer, search, pickEnd, beginOf, finishOf, recheckOf, scanOf, openOf, grantOf, pickOf, deliverOf, evictOf, cancelOf}
 use Rattle.rules.specs.Said.{said}
 use Rattle.rules.specs.Runs.{Call, step, number, callerOf, isOpen}
-use Rattle.rules.specs.Runs.Call.{Begin, Finish, Recheck, Scan, Open, Grant, Pick, Deliver}
+use Rattle.rules.specs.Runs.Call.{Begin, Finish, Recheck, Scan, Open, Grant, Pick, Deliver, Evict, Cancel}
 use Rattle.rules.proofs.Tests.{both, if-either, if-cases}
 use Rattle.rules.proofs.Keeps.{burn-none}
 use Rattle.rules.proofs.Costly.{charge-low, charge-unit, charge-one}
@@ -49,7 +49,7 @@ pub positive : (n : ℕ) → eqb n 0 ≡ false → 0 < n
 positive n h = omega (arith, eqb-false n 0 h)
 
 module _ (t : Table) (who : ℕ) where
-  -- Begin, Recheck and Scan: 1, 2, and then charged numbers
+  -- Begin, Recheck, Scan and cancel: 1, 2, and then charged numbers
   tenant-rows : (rows : List Row) → every (λ row. member (row .number) costly) rows ≡ true → Verdict who (fuelOf t who) (firstOf (not (isTenant who) gives 1 ∷ isDry t who gives 2 ∷ rows))
   unfolding firstOf
   tenant-rows rows all =
@@ -81,6 +81,10 @@ module _ (t : Table) (who : ℕ) where
   pub recheck-verdict : (p : Prices) (serial : ℕ) → Verdict who (fuelOf t who) (firstOf (recheckRows p t who serial))
   unfolding recheckRows every member some costly
   recheck-verdict p serial = tenant-rows _ refl
+
+  pub cancel-verdict : (serial : ℕ) → Verdict who (fuelOf t who) (firstOf (cancelRows t who serial))
+  unfolding cancelRows every member some costly
+  cancel-verdict serial = tenant-rows _ refl
 
   pub scan-verdict : Verdict who (fuelOf t who) (firstOf (scanRows t who))
   unfolding scanRows every
@@ -180,7 +184,7 @@ refused-search p t who unit is =
 
 -- any call but Open
 refused-call : (p : Prices) (t : Table) (c : Call) (unit : ℕ) → Charge p t (callerOf c) unit → isOpen c ≡ false → eqb (number (step p t c)) 0 ≡ false → Refusal unit (searching p (search p t (callerOf c) .looked)) t c (step p t c)
-unfolding beginOf finishOf recheckOf grantOf pickOf deliverOf
+unfolding beginOf finishOf recheckOf grantOf pickOf deliverOf evictOf cancelOf
 refused-call p t (Begin who awaited reads writes) unit is shut h =
     let e = asked t who awaited reads writes in
     let r = tenant-refused p t who unit is (firstOf (beginRows p t e)) _ _ _ (begin-verdict p t e) (begun-said (t .queue) (reduced e) .0) h in
@@ -200,6 +204,11 @@ refused-call p t (Grant who amount) unit is shut h =
 refused-call p t Pick unit is shut h = absurd (true≢false (rw (pick-number (t .queue)) at h))
 refused-call p t (Deliver who serial) unit is shut h =
     record { same = host-refused t (firstOf (deliverRows t who serial)) _ _ refl h; burnt = refl }
+refused-call p t (Evict who serial) unit is shut h =
+    record { same = host-refused t (firstOf (evictRows t who serial)) _ _ refl h; burnt = refl }
+refused-call p t (Cancel who serial) unit is shut h =
+    let r = tenant-refused p t who unit is (firstOf (cancelRows t who serial)) _ _ _ (cancel-verdict t who serial) refl h in
+    record { same = r .0; burnt = r .1 }
 
 -- ---- 6 "A refusal changes no counter, entry, place or serial, and burns exactly the table's charge": the list's, or what
 -- is left if less; and document 01's, which is 1
@@ -240,7 +249,7 @@ found-5 q nothing = refl
 found-5 q short = refl
 
 pub never-five : (p : Prices) → NeverFive p
-unfolding beginOf finishOf recheckOf scanOf openOf grantOf pickOf deliverOf beginRows finishRows recheckRows scanRows openRows grantRows deliverRows every
+unfolding beginOf finishOf recheckOf scanOf openOf grantOf pickOf deliverOf evictOf cancelOf beginRows finishRows recheckRows scanRows openRows grantRows deliverRows evictRows cancelRows every
 never-five p t (Begin who awaited reads writes) =
     let e = reduced (asked t who awaited reads writes) in
     by-rows-5 _ _ refl (ap (λ (n : ℕ). eqb n 5) (begun-said (t .queue) e .0))
@@ -253,3 +262,5 @@ never-five p t (Open shares) = by-rows-5 _ _ refl refl
 never-five p t (Grant who amount) = by-rows-5 _ _ refl refl
 never-five p t Pick = found-5 (t .queue) (pickEnd (t .queue))
 never-five p t (Deliver who serial) = by-rows-5 _ _ refl refl
+never-five p t (Evict who serial) = by-rows-5 _ _ refl refl
+never-five p t (Cancel who serial) = by-rows-5 _ _ refl refl

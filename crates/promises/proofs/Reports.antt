@@ -10,13 +10,13 @@ use Rattle.rules.specs.declared.Answer.the-variants.{Refused}
 use Rattle.rules.specs.Lists.{if_then_else_}
 use Rattle.rules.specs.Request.{Request, reduced, conflictsAny, promoted}
 use Rattle.rules.specs.Prices.{Prices}
-use Rattle.rules.specs.Refusals.{firstOf, entryOf, finishRows, recheckRows, scanRows, grantRows, openRows, deliverRows}
+use Rattle.rules.specs.Refusals.{firstOf, entryOf, finishRows, recheckRows, scanRows, grantRows, openRows, deliverRows, evictRows, cancelRows}
 use Rattle.rules.specs.Counters.{cx, cs, alone}
 use Rattle.rules.specs.Clash.{clashesOn, lowestClash}
 use Rattle.rules.specs.Scan.{End, found, nothing, short}
-use Rattle.rules.specs.Calls.{Outcome, asked, found-answer, search, pickEnd, finishOf, recheckOf, scanOf, openOf, grantOf, pickOf, deliverOf}
+use Rattle.rules.specs.Calls.{Outcome, asked, found-answer, search, pickEnd, finishOf, recheckOf, scanOf, openOf, grantOf, pickOf, deliverOf, evictOf, cancelOf}
 use Rattle.rules.specs.Said.{said}
-use Rattle.rules.specs.Runs.Call.{Begin, Finish, Recheck, Scan, Open, Grant, Pick, Deliver}
+use Rattle.rules.specs.Runs.Call.{Begin, Finish, Recheck, Scan, Open, Grant, Pick, Deliver, Evict, Cancel}
 use Rattle.rules.proofs.Tests.{if-either}
 use Rattle.rules.proofs.Admission.{begin-admits}
 use Rattle.rules.proofs.Clashing.{clash-conflicts, clash-shares, reduced-clashes, lowest-reported, joins-blocked, joins-clear}
@@ -66,7 +66,7 @@ found-alone q nothing = refl
 found-alone q short = refl
 
 pub begin-alone : (p : Prices) → BeginAlone p
-unfolding finishOf recheckOf scanOf openOf grantOf pickOf deliverOf
+unfolding finishOf recheckOf scanOf openOf grantOf pickOf deliverOf evictOf cancelOf
 begin-alone p t (Begin who awaited reads writes) other = absurd (true≢false other)
 begin-alone p t (Finish who serial) other = or-refused (firstOf (finishRows t who serial)) _ refl
 begin-alone p t (Recheck who serial) other =
@@ -77,3 +77,5 @@ begin-alone p t (Open shares) other = or-refused (firstOf (openRows shares)) _ r
 begin-alone p t (Grant who amount) other = or-refused (firstOf (grantRows t who amount)) _ refl
 begin-alone p t Pick other = found-alone (t .queue) (pickEnd (t .queue))
 begin-alone p t (Deliver who serial) other = or-refused (firstOf (deliverRows t who serial)) _ refl
+begin-alone p t (Evict who serial) other = or-refused (firstOf (evictRows t who serial)) _ refl
+begin-alone p t (Cancel who serial) other = or-refused (firstOf (cancelRows t who serial)) _ refl

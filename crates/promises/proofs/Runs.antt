@@ -8,7 +8,7 @@ use Rattle.rules.specs.Prices.{Prices}
 use Rattle.rules.specs.Calls.{openOf}
 use Rattle.rules.specs.Sound.{Each, SoundBy, SoundAny}
 use Rattle.rules.specs.Runs.{Call, Step, Run, step, isOpen, recordsOf, after, runOf}
-use Rattle.rules.specs.Runs.Call.{Begin, Finish, Recheck, Scan, Open, Grant, Pick, Deliver}
+use Rattle.rules.specs.Runs.Call.{Begin, Finish, Recheck, Scan, Open, Grant, Pick, Deliver, Evict, Cancel}
 use Rattle.rules.proofs.Tests.{if-cases}
 use Rattle.rules.proofs.Sound.{step-sound, step-any, open-sound}
 use Rattle.promises.specs.Fuel.{reached}
@@ -40,6 +40,8 @@ module _ (p : Prices) (P : Table → List Step → Type 0) (opening : (shares : 
   opens t (Grant who amount) e = absurd (false≢true e)
   opens t Pick e = absurd (false≢true e)
   opens t (Deliver who serial) e = absurd (false≢true e)
+  opens t (Evict who serial) e = absurd (false≢true e)
+  opens t (Cancel who serial) e = absurd (false≢true e)
 
   from : (calls : List Call) (r : Run) → SoundAny (r .table) → P (r .table) (r .steps) → P (runOf p r calls .table) (runOf p r calls .steps)
   unfolding runOf after

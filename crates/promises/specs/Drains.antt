@@ -11,7 +11,7 @@ use Rattle.rules.specs.Table.{Table, withQueue}
 use Rattle.rules.specs.Prices.{Prices}
 use Rattle.rules.specs.Sound.{Each, SoundAny}
 use Rattle.rules.specs.Runs.{Call, Step, Run, from, runOf, number}
-use Rattle.rules.specs.Runs.Call.{Begin, Finish, Recheck, Scan, Open, Grant, Pick, Deliver}
+use Rattle.rules.specs.Runs.Call.{Begin, Finish, Recheck, Scan, Open, Grant, Pick, Deliver, Evict, Cancel}
 use Rattle.promises.specs.Fuel.{reached}
 
 -- ---- 11 No request hangs: a Waiting entry has an answer due
@@ -43,6 +43,8 @@ isDraining (Open shares) = false
 isDraining (Grant who amount) = false
 isDraining Pick = true
 isDraining (Deliver who serial) = true
+isDraining (Evict who serial) = false
+isDraining (Cancel who serial) = false
 
 -- a call that was not refused and burnt nothing
 pub record Smooth (s : Step) : Type 0 where

@@ -17,13 +17,15 @@ use Rattle.rules.specs.Calls.{search as searchOf}
 use Rattle.rules.specs.Sound.{SoundAny}
 use Rattle.rules.specs.Runs.{Call, Run, step, roleOf, callerOf, isOpen, priceOf, number, opened, runOf}
 use Rattle.rules.specs.Runs.{burntBy, pricesBy, grantOfCall, grantedTo, notDry}
-use Rattle.rules.specs.Runs.Call.{Begin, Finish, Recheck, Scan, Open, Grant, Pick, Deliver}
+use Rattle.rules.specs.Runs.Call.{Begin, Finish, Recheck, Scan, Open, Grant, Pick, Deliver, Evict, Cancel}
 
 -- ---- what the promises ask of a price list
 pub record Fair (p : Prices) : Type 0 where
   -- an admitted request has paid for two calls, itself and its Finish, which then is free
   pub request : (n : ℕ) → 2 ≤ p .request n + p .release n
   pub finish : p .finish ≡ 0
+  -- whoever is not dry can pay for a cancel
+  pub cancel : p .cancel ≡ 1
   -- whoever is not dry can pay for a search before its first look
   pub search : p .search ≡ 1
   pub recheck : (n : ℕ) → 1 ≤ p .recheck n
@@ -135,6 +137,8 @@ cost9 t (Open shares) = 0
 cost9 t (Grant who amount) = 0
 cost9 t Pick = 0
 cost9 t (Deliver who serial) = 0
+cost9 t (Evict who serial) = 0
+cost9 t (Cancel who serial) = 1
 
 -- that, or what the table says where the call is refused: 1 for a charged number
 abbrev pub Costs9 : Table → Call → Outcome → Type 0

@@ -5,6 +5,7 @@ pub mod Searches
 pub mod Places
 pub mod Names
 pub mod Order
+pub mod TakingOut
 pub mod Sales
 pub mod Reports
 pub mod Drains

@@ -15,6 +15,7 @@ use Rattle.promises.specs.Drains.{NeverHangs, Drains, AlwaysDrains}
 use Rattle.promises.specs.Sales.{SellersConflict, SecondWaits}
 use Rattle.promises.specs.Reports.{Reports, BeginAlone}
 use Rattle.promises.specs.Order.{Order, StaysAway, RunInOrder, AdmissionTotal, QueueOrder}
+use Rattle.promises.specs.TakingOut.{EvictionTakes, OthersLowerNeither, Evicts, HostEmpties, Cancels, CancelsNoOther, NextScan}
 
 -- 9 the states reached are sound, and name no records but those that the calls named
 abbrev pub AllSound : Prices → Type 1
@@ -76,6 +77,16 @@ pub record Promises (p : Prices) : Type 1 where
   -- 17
   pub admission-total : AdmissionTotal p
   pub queue-order : QueueOrder p
+  -- 18
+  pub eviction-takes : EvictionTakes
+  pub others-lower-neither : OthersLowerNeither p
+  -- 19
+  pub evicts : Evicts
+  pub host-empties : HostEmpties p
+  pub cancels : Cancels p
+  pub cancels-no-other : CancelsNoOther p
+  -- 20
+  pub next-scan : NextScan p
 
 pub record AtClause9 : Type 1 where
   pub all : Promises clause9

@@ -56,6 +56,8 @@ fn called(s: State, bytes: &[u8], at: usize, e: Event) -> State
         Kind::Scan => manager::scan::scan(s, e.tenant),
         Kind::Pick => manager::pick::pick(s),
         Kind::Deliver => manager::deliver::deliver(s, e.tenant, e.serial),
+        Kind::Evict => manager::evict::evict(s, e.tenant, e.serial),
+        Kind::Cancel => manager::cancel::cancel(s, e.tenant, e.serial),
     }
 }
 

@@ -4,15 +4,15 @@ use mathlib.Core.Path.{_≡_, refl}
 use mathlib.Core.Bool.{false}
 use mathlib.Core.List.{List, [], _∷_, _++_}
 use native.Mathlib.Omega.{arith}
-use lib.Dec.{ltb}
+use lib.Dec.{eqb, ltb}
 use borrow.Author.Tests.{ltb-false}
 use Rattle.rules.specs.Lists.{total}
 use Rattle.rules.specs.Request.{Request, size}
-use Rattle.rules.specs.Table.{Table, meterOf}
+use Rattle.rules.specs.Table.{Table, meterOf, burn}
 use Rattle.rules.specs.Prices.{Prices, clause9, admission, looks, searching}
 use Rattle.rules.specs.Scan.{Walk, scanWalk, qualifies}
-use Rattle.rules.specs.Refusals.{firstOf, finishRows}
-use Rattle.rules.specs.Calls.{search, finishOf}
+use Rattle.rules.specs.Refusals.{firstOf, finishRows, evictRows, cancelRows}
+use Rattle.rules.specs.Calls.{search, finishOf, evictOf, cancelOf}
 use Rattle.rules.proofs.Tests.{if-either, if-cases}
 use Rattle.rules.proofs.Lists.{total-append}
 
@@ -54,6 +54,15 @@ recheck-price n = refl
 pub finish-free : (t : Table) (who serial : ℕ) → firstOf (finishRows t who serial) ≡ 0 → finishOf clause9 t who serial .burnt ≡ 0
 unfolding finishOf
 finish-free t who serial passes = rw passes
+
+-- document 02, item 7: a cancel is "burning 1", and neither it nor an eviction gives fuel back
+pub cancel-price : (t : Table) (who serial : ℕ) → firstOf (cancelRows t who serial) ≡ 0 → (cancelOf clause9 t who serial .burnt ≡ 1) × (cancelOf clause9 t who serial .table .meters ≡ burn who 1 t .meters)
+unfolding cancelOf
+cancel-price t who serial passes = (rw passes, rw passes)
+
+pub evict-refunds-nothing : (t : Table) (who serial : ℕ) → evictOf t who serial .table .meters ≡ t .meters
+unfolding evictOf
+evict-refunds-nothing t who serial = if-either (λ (u : Table). u .meters ≡ t .meters) (eqb (firstOf (evictRows t who serial)) 0) refl refl
 
 -- Scan: "It burns 1 ... 1 + n for each"
 pub search-cost : (looked : List Request) → searching clause9 looked ≡ 1 + total (λ e. 1 + size e) looked

@@ -8,10 +8,10 @@ use lib.ListN.{length}
 use borrow.Author.Tests.{eq-eqb, ltb-false, leb-false, eqb-false, eqb-true, not-false}
 use Rattle.rules.specs.Lists.{some, total}
 use Rattle.rules.specs.Records.{member, rising, onlyRead}
-use Rattle.rules.specs.Request.{Request, reduced, size, isFree}
+use Rattle.rules.specs.Request.{Request, reduced, size, isFree, isBlocked}
 use Rattle.rules.specs.Table.{Table, meterOf, isTenant, placesOf, mostFuel}
 use Rattle.rules.specs.Prices.{Prices, admission, charge, costly}
-use Rattle.rules.specs.Refusals.{Row, _gives_, firstOf, standsAt, isAbsent, entryOf, beginRows, finishRows, recheckRows, scanRows, deliverRows, grantRows, openRows}
+use Rattle.rules.specs.Refusals.{Row, _gives_, firstOf, standsAt, isAbsent, entryOf, beginRows, finishRows, recheckRows, scanRows, deliverRows, evictRows, cancelRows, grantRows, openRows}
 use Rattle.rules.proofs.Tests.{both, neither, above-zero}
 use Rattle.rules.proofs.Admission.{Admissible}
 
@@ -73,7 +73,7 @@ open-passes shares z =
     let b = neither (not (eqb (length shares) 16)) (ltb 64 (total (λ n. n) shares)) (a .0) in
     (eqb-true (length shares) 16 (not-false (eqb (length shares) 16) (b .0)), ltb-false 64 (total (λ n. n) shares) (b .1))
 
--- ---- Finish, Recheck, Deliver: the entry is there, in the state that the call asks for
+-- ---- Finish, Recheck, Deliver, evict, cancel: the entry is there, in the state that the call asks for
 pub finish-passes : (t : Table) (who serial : ℕ) → firstOf (finishRows t who serial) ≡ 0 → (isTenant who ≡ true) × (isAbsent who serial (t .queue) ≡ false) × (isFree (entryOf who serial (t .queue) .mode) ≡ true)
 unfolding finishRows
 finish-passes t who serial z =
@@ -100,6 +100,34 @@ deliver-passes t who serial z =
     let b = pass _ 10 _ refl (a .1) in
     let c = pass _ 12 _ refl (b .1) in
     (b .0, c .0)
+
+pub evict-passes : (t : Table) (who serial : ℕ) → firstOf (evictRows t who serial) ≡ 0 → (isTenant who ≡ true) × (isAbsent who serial (t .queue) ≡ false)
+unfolding evictRows
+evict-passes t who serial z =
+    let a = pass _ 1 _ refl z in
+    let b = pass _ 10 _ refl (a .1) in
+    (not-false (isTenant who) (a .0), b .0)
+
+-- what lets a cancel pass
+pub record Cancelable (t : Table) (who serial : ℕ) : Type 0 where
+  pub tenant : isTenant who ≡ true
+  pub fuelled : 0 < meterOf t who .fuel
+  pub there : isAbsent who serial (t .queue) ≡ false
+  pub blocked : isBlocked (entryOf who serial (t .queue) .mode) ≡ true
+
+pub cancel-passes : (t : Table) (who serial : ℕ) → firstOf (cancelRows t who serial) ≡ 0 → Cancelable t who serial
+unfolding cancelRows
+cancel-passes t who serial z =
+    let a = pass _ 1 _ refl z in
+    let b = pass _ 2 _ refl (a .1) in
+    let c = pass _ 10 _ refl (b .1) in
+    let d = pass _ 11 _ refl (c .1) in
+    record {
+      tenant = not-false (isTenant who) (a .0);
+      fuelled = above-zero (meterOf t who .fuel) (eqb-false (meterOf t who .fuel) 0 (b .0));
+      there = c .0;
+      blocked = not-false (isBlocked (entryOf who serial (t .queue) .mode)) (d .0);
+    }
 
 -- the place of an entry that is there
 pub here : (who serial : ℕ) (q : List Request) → isAbsent who serial q ≡ false → standsAt who serial q < length q

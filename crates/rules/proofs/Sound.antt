@@ -14,12 +14,12 @@ use Rattle.rules.specs.Records.{onlyRead, Stored}
 use Rattle.rules.specs.Request.{Request, nobody, reduced, size, conflict, conflictsAny, isWaiting, isBlocked, withMode, withDue, promoted, admitted, delivered}
 use Rattle.rules.specs.Table.{Meter, Table, isTenant, meterOf, withMeter, numbered, granted, placesOf, burn, fresh, newMeter, mostFuel, mostSerials}
 use Rattle.rules.specs.Prices.{Prices, admission}
-use Rattle.rules.specs.Refusals.{firstOf, standsAt, isAbsent, entryOf, beginRows, finishRows, recheckRows, scanRows, deliverRows, grantRows, openRows}
+use Rattle.rules.specs.Refusals.{firstOf, standsAt, isAbsent, entryOf, beginRows, finishRows, recheckRows, scanRows, deliverRows, evictRows, cancelRows, grantRows, openRows}
 use Rattle.rules.specs.Counters.{cx, cs, alone}
 use Rattle.rules.specs.Scan.{End, found, nothing, short}
-use Rattle.rules.specs.Calls.{toPay, withoutEntry, withEntry, asked, joined, found-table, search, pickEnd, beginOf, finishOf, recheckOf, scanOf, openOf, grantOf, pickOf, deliverOf}
+use Rattle.rules.specs.Calls.{toPay, withoutEntry, withEntry, gone, asked, joined, found-table, search, pickEnd, beginOf, finishOf, recheckOf, scanOf, openOf, grantOf, pickOf, deliverOf, evictOf, cancelOf}
 use Rattle.rules.specs.Runs.{Call, step, recordsOf}
-use Rattle.rules.specs.Runs.Call.{Begin, Finish, Recheck, Scan, Open, Grant, Pick, Deliver}
+use Rattle.rules.specs.Runs.Call.{Begin, Finish, Recheck, Scan, Open, Grant, Pick, Deliver, Evict, Cancel}
 use Rattle.rules.specs.Sound.{Each, InOrder, Fit, SoundBy, SoundAny, Names, SerialsRise, ClearOf, givenBy}
 use Rattle.rules.proofs.Tests.{both, neither, if-cases, above-zero}
 use Rattle.rules.proofs.Lists.{some-append}
@@ -27,7 +27,7 @@ use Rattle.rules.proofs.Reduced.{keep-each, reduced-stored}
 use Rattle.rules.proofs.Requests.{delivered-as, conflict-size}
 use Rattle.rules.proofs.Meters.{meter-own}
 use Rattle.rules.proofs.Admission.{Admissible}
-use Rattle.rules.proofs.Refusals.{stranger, free-of-charge, begin-passes, grant-passes, open-passes, finish-passes, recheck-passes, deliver-passes, here}
+use Rattle.rules.proofs.Refusals.{stranger, free-of-charge, begin-passes, grant-passes, open-passes, finish-passes, recheck-passes, deliver-passes, evict-passes, cancel-passes, here}
 use Rattle.rules.proofs.Order.{each-at, each-parts, each-all, each-map, each-none, order-ahead}
 use Rattle.rules.proofs.Keeps.{sound-meter, sound-burn, burn-none, fuel-limit, serials-limit, promoted-fit, sound-joined, sound-removed, sound-replaced}
 use Rattle.rules.proofs.Verdicts.{alone-conflicts}
@@ -107,12 +107,28 @@ begin-keeps p {ok} {t} s who awaited reads writes named =
     tenant-sound p s who (firstOf (beginRows p t e)) (admission p (reduced e)) (joined t (admitted (t .queue) (reduced e))) (stranger who _)
     (λ z. begin-sound p s who awaited reads writes (reduced-names e named) (begin-passes p t e z))
 
--- ---- Finish
+-- ---- Finish, evict, cancel: an entry that is there leaves
+pub gone-sound : {ok : ℕ → Type 0} {t : Table} → SoundBy ok t → (who serial : ℕ) → isAbsent who serial (t .queue) ≡ false → SoundBy ok (gone t who serial)
+gone-sound {ok} {t} s who serial present = sound-removed s (standsAt who serial (t .queue)) (here who serial (t .queue) present)
+
 pub finish-keeps : (p : Prices) {ok : ℕ → Type 0} {t : Table} → SoundBy ok t → (who serial : ℕ) → SoundBy ok (finishOf p t who serial .table)
 unfolding finishOf finishRows
 finish-keeps p {ok} {t} s who serial =
     tenant-sound p s who (firstOf (finishRows t who serial)) (p .finish) _ (stranger who _)
-    (λ z. sound-removed s (standsAt who serial (t .queue)) (here who serial (t .queue) (finish-passes t who serial z .1)))
+    (λ z. gone-sound s who serial (finish-passes t who serial z .1))
+
+pub cancel-keeps : (p : Prices) {ok : ℕ → Type 0} {t : Table} → SoundBy ok t → (who serial : ℕ) → SoundBy ok (cancelOf p t who serial .table)
+unfolding cancelOf cancelRows
+cancel-keeps p {ok} {t} s who serial =
+    tenant-sound p s who (firstOf (cancelRows t who serial)) (p .cancel) _ (stranger who _)
+    (λ z. gone-sound s who serial (cancel-passes t who serial z .there))
+
+pub evict-keeps : {ok : ℕ → Type 0} {t : Table} → SoundBy ok t → (who serial : ℕ) → SoundBy ok (evictOf t who serial .table)
+unfolding evictOf
+evict-keeps {ok} {t} s who serial =
+    if-cases (SoundBy ok) (eqb (firstOf (evictRows t who serial)) 0)
+    (λ z. gone-sound s who serial (evict-passes t who serial (eqb-true _ 0 z) .1))
+    (λ z. s)
 
 -- ---- a delivered answer
 delivered-fit : (given : ℕ → ℕ) (e : Request) → Fit given e → eqb (e .due) 0 ≡ false → Fit given (delivered e)
@@ -303,6 +319,8 @@ step-sound p s (Open shares) named = open-sound shares
 step-sound p s (Grant who amount) named = grant-keeps s who amount
 step-sound p s Pick named = pick-keeps s
 step-sound p s (Deliver who serial) named = deliver-keeps s who serial
+step-sound p s (Evict who serial) named = evict-keeps s who serial
+step-sound p s (Cancel who serial) named = cancel-keeps p s who serial
 
 -- ---- whatever records are named
 pub step-any : (p : Prices) {t : Table} → SoundAny t → (c : Call) → SoundAny (step p t c .table)

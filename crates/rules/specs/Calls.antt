@@ -1,4 +1,4 @@
--- The eight calls: each takes a table and its arguments to the table after it, its answer, and the units burnt.
+-- The ten calls: each takes a table and its arguments to the table after it, its answer, and the units burnt.
 use Prim.Native.Nat.{ℕ, _+_, _-_}
 use mathlib.Core.List.{List, [], _∷_, _++_}
 use lib.Dec.{eqb}
@@ -9,7 +9,7 @@ use Rattle.rules.specs.Lists.{if_then_else_}
 use Rattle.rules.specs.Request.{Request, nobody, requested, reduced, size, promoted, admitted, delivered, isBlocked}
 use Rattle.rules.specs.Table.{Table, meterOf, withMeter, withQueue, numbered, granted, burn, fresh}
 use Rattle.rules.specs.Prices.{Prices, admission, searching, charge}
-use Rattle.rules.specs.Refusals.{firstOf, standsAt, entryOf, beginRows, finishRows, recheckRows, scanRows, deliverRows, grantRows, openRows}
+use Rattle.rules.specs.Refusals.{firstOf, standsAt, entryOf, beginRows, finishRows, recheckRows, scanRows, deliverRows, evictRows, cancelRows, grantRows, openRows}
 use Rattle.rules.specs.Counters.{cx, cs, alone}
 use Rattle.rules.specs.Clash.{lowestClash}
 use Rattle.rules.specs.Scan.{End, found, nothing, short, Walk, scanWalk}
@@ -69,11 +69,13 @@ beginOf p t who awaited reads writes =
     let entry = admitted (t .queue) (reduced e) in
     tenantCall p t who (firstOf (beginRows p t e)) (admission p (reduced e)) (joined t entry) (begun (t .queue) (reduced e))
 
+-- the entry of that name leaves, and with it its counts and its place, since both are counted over the queue
+abbrev pub gone : Table → ℕ → ℕ → Table
+gone t who serial = withQueue t (withoutEntry (standsAt who serial (t .queue)) (t .queue))
+
 -- "A Free entry leaves". "Finish answers done."
 unfoldable pub finishOf : Prices → Table → ℕ → ℕ → Outcome
-finishOf p t who serial =
-    let at = standsAt who serial (t .queue) in
-    tenantCall p t who (firstOf (finishRows t who serial)) (p .finish) (withQueue t (withoutEntry at (t .queue))) Done
+finishOf p t who serial = tenantCall p t who (firstOf (finishRows t who serial)) (p .finish) (gone t who serial) Done
 
 -- "the entry is promoted; if not, the answer is still"
 unfoldable pub recheckOf : Prices → Table → ℕ → ℕ → Outcome
@@ -128,3 +130,11 @@ unfoldable pub deliverOf : Table → ℕ → ℕ → Outcome
 deliverOf t who serial =
     let e = delivered (entryOf who serial (t .queue)) in
     hostCall t (firstOf (deliverRows t who serial)) (withEntry t (standsAt who serial (t .queue)) e) (named e)
+
+-- Document 02, item 7: "The host needs evict (tenant, serial) for an entry in any state". "A tenant needs cancel for its own
+-- Blocked entry, burning 1". "Both release counters and place, refund no fuel and answer done."
+unfoldable pub evictOf : Table → ℕ → ℕ → Outcome
+evictOf t who serial = hostCall t (firstOf (evictRows t who serial)) (gone t who serial) Done
+
+unfoldable pub cancelOf : Prices → Table → ℕ → ℕ → Outcome
+cancelOf p t who serial = tenantCall p t who (firstOf (cancelRows t who serial)) (p .cancel) (gone t who serial) Done

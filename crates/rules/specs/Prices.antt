@@ -12,6 +12,8 @@ pub record Prices : Type 0 where
   pub release : ℕ → ℕ
   -- the Finish itself
   pub finish : ℕ
+  -- a cancel
+  pub cancel : ℕ
   -- a Recheck of an entry of n records
   pub recheck : ℕ → ℕ
   -- a search, and each entry of n records that it looks at
@@ -21,12 +23,14 @@ pub record Prices : Type 0 where
   pub refused : ℕ
 
 -- Begin: "1 + n now and 1 + n for the release". Finish: "It burns 0". Recheck: "price 1 + n".
--- Scan: "It burns 1, then looks at entries from the front, burning 1 + n for each". The table: "1".
+-- Scan: "It burns 1, then looks at entries from the front, burning 1 + n for each". The table: "1". Document 02, item 7: "cancel"
+-- is "burning 1".
 abbrev pub clause9 : Prices
 clause9 = record {
   request = λ n. 1 + n;
   release = λ n. 1 + n;
   finish = 0;
+  cancel = 1;
   recheck = λ n. 1 + n;
   search = 1;
   look = λ n. 1 + n;

@@ -88,6 +88,18 @@ deliverRows t who serial =
     eqb (entryOf who serial (t .queue) .due) 0 gives 12 ∷
     []
 
+-- document 02, item 7: "evict 1, 10, burning 0"; "cancel 1, 2, 10, then 11 for an entry not Blocked"
+unfoldable pub evictRows : Table → ℕ → ℕ → List Row
+evictRows t who serial = not (isTenant who) gives 1 ∷ isAbsent who serial (t .queue) gives 10 ∷ []
+
+unfoldable pub cancelRows : Table → ℕ → ℕ → List Row
+cancelRows t who serial =
+    not (isTenant who) gives 1 ∷
+    isDry t who gives 2 ∷
+    isAbsent who serial (t .queue) gives 10 ∷
+    not (isBlocked (entryOf who serial (t .queue) .mode)) gives 11 ∷
+    []
+
 -- "Grant: 1, 13"
 unfoldable pub grantRows : Table → ℕ → ℕ → List Row
 grantRows t who amount =

@@ -10,8 +10,8 @@ use Rattle.rules.specs.Request.{reduced, size}
 use Rattle.rules.specs.Table.{Table}
 use Rattle.rules.specs.CallTable.{Role, rowOf, isOpening, payer}
 use Rattle.rules.specs.Prices.{Prices, admission, searching}
-use Rattle.rules.specs.Refusals.{firstOf, entryOf, beginRows, finishRows, recheckRows, scanRows}
-use Rattle.rules.specs.Calls.{Outcome, toPay, asked, search, beginOf, finishOf, recheckOf, scanOf, openOf, grantOf, pickOf, deliverOf}
+use Rattle.rules.specs.Refusals.{firstOf, entryOf, beginRows, finishRows, recheckRows, scanRows, cancelRows}
+use Rattle.rules.specs.Calls.{Outcome, toPay, asked, search, beginOf, finishOf, recheckOf, scanOf, openOf, grantOf, pickOf, deliverOf, evictOf, cancelOf}
 use Rattle.rules.specs.Said.{said}
 
 -- the calls with their arguments
@@ -24,6 +24,8 @@ pub data Call : Type 0 where
   Grant : ℕ → ℕ → Call
   Pick : Call
   Deliver : ℕ → ℕ → Call
+  Evict : ℕ → ℕ → Call
+  Cancel : ℕ → ℕ → Call
 
 -- what it makes of a table
 abbrev pub step : Prices → Table → Call → Outcome
@@ -35,6 +37,8 @@ step p t (Open shares) = openOf shares
 step p t (Grant who amount) = grantOf t who amount
 step p t Pick = pickOf t
 step p t (Deliver who serial) = deliverOf t who serial
+step p t (Evict who serial) = evictOf t who serial
+step p t (Cancel who serial) = cancelOf p t who serial
 
 abbrev pub event : Kind → ℕ → ℕ → ℕ → ℕ → Event
 event kind tenant awaited serial amount = record { kind = kind; tenant = tenant; awaited = awaited; serial = serial; amount = amount }
@@ -49,6 +53,8 @@ eventOf (Open shares) = event Kind.Open 0 0 0 0
 eventOf (Grant who amount) = event Kind.Grant who 0 0 amount
 eventOf Pick = event Kind.Pick 0 0 0 0
 eventOf (Deliver who serial) = event Kind.Deliver who 0 serial 0
+eventOf (Evict who serial) = event Kind.Evict who 0 serial 0
+eventOf (Cancel who serial) = event Kind.Cancel who 0 serial 0
 
 -- its lists, which are all the records that it names
 pub record Lists : Type 0 where
@@ -67,6 +73,8 @@ listsOf (Open shares) = both [] []
 listsOf (Grant who amount) = both [] []
 listsOf Pick = both [] []
 listsOf (Deliver who serial) = both [] []
+listsOf (Evict who serial) = both [] []
+listsOf (Cancel who serial) = both [] []
 
 abbrev pub recordsOf : Call → List ℕ
 recordsOf c = listsOf c .reads ++ listsOf c .writes
@@ -94,6 +102,8 @@ priceOf p t (Open shares) = 0
 priceOf p t (Grant who amount) = 0
 priceOf p t Pick = 0
 priceOf p t (Deliver who serial) = 0
+priceOf p t (Evict who serial) = 0
+priceOf p t (Cancel who serial) = toPay p t who (firstOf (cancelRows t who serial)) (p .cancel)
 
 -- the number that it was refused with, 0 where it was not
 abbrev pub number : Outcome → ℕ

@@ -35,6 +35,8 @@ pub enum Kind {
     Scan,
     Pick,
     Deliver,
+    Evict,
+    Cancel,
 }
 
 // A call without its lists: the tenant that it names and its numbers, 0 where it has none.

@@ -116,6 +116,24 @@ entry-event-requires-3 c κs =
     let n = has-bytes (s .pre) 3 (same-body (c .enum-told8 .given .1)) in
     omega arith
 
+enum-told-9 : tie.Need-enum-told-9
+enum-told-9 c = search needs
+
+entry-event-requires-4 : tie.Need-entry-event-requires-4
+entry-event-requires-4 c κs =
+    let s = c .before .before .before in
+    let n = has-bytes (s .pre) 3 (same-body (c .enum-told9 .given .1)) in
+    omega arith
+
+enum-told-10 : tie.Need-enum-told-10
+enum-told-10 c = search needs
+
+entry-event-requires-5 : tie.Need-entry-event-requires-5
+entry-event-requires-5 c κs =
+    let s = c .before .before .before in
+    let n = has-bytes (s .pre) 3 (same-body (c .enum-told10 .given .1)) in
+    omega arith
+
 returns : tie.Need-returns
 unfolding callOf
 returns c = c .event .ensures ∙ rw (c .before .enum-told .given .1) refl
@@ -167,6 +185,20 @@ returns-8 c =
     let told = c .before .enum-told8 .given .1 in
     c .entry-event3 .ensures ∙ sym (entry-event (s .pre) (same-body told)) ∙ rw told refl
 
+returns-9 : tie.Need-returns-9
+unfolding callOf
+returns-9 c =
+    let s = c .before .before .before .before in
+    let told = c .before .enum-told9 .given .1 in
+    c .entry-event4 .ensures ∙ sym (entry-event (s .pre) (same-body told)) ∙ rw told refl
+
+returns-10 : tie.Need-returns-10
+unfolding callOf
+returns-10 c =
+    let s = c .before .before .before .before in
+    let told = c .before .enum-told10 .given .1 in
+    c .entry-event5 .ensures ∙ sym (entry-event (s .pre) (same-body told)) ∙ rw told refl
+
 pub event-at-spec : {M : Type 1} → statement M
 event-at-spec =
     tie.close
@@ -197,6 +229,10 @@ event-at-spec =
     event-requires-5
     enum-told-8
     entry-event-requires-3
+    enum-told-9
+    entry-event-requires-4
+    enum-told-10
+    entry-event-requires-5
     returns
     returns-2
     returns-3
@@ -204,4 +240,6 @@ event-at-spec =
     returns-5
     returns-6
     returns-7
-    returns-8)
+    returns-8
+    returns-9
+    returns-10)

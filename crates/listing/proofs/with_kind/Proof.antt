@@ -78,6 +78,24 @@ slice-aggregate-with-text-8 c = search needs
 with-text-requires-8 : tie.Need-with-text-requires-8
 with-text-requires-8 c κs = search needs
 
+enum-told-9 : tie.Need-enum-told-9
+enum-told-9 c = search needs
+
+slice-aggregate-with-text-9 : tie.Need-slice-aggregate-with-text-9
+slice-aggregate-with-text-9 c = search needs
+
+with-text-requires-9 : tie.Need-with-text-requires-9
+with-text-requires-9 c κs = search needs
+
+enum-told-10 : tie.Need-enum-told-10
+enum-told-10 c = search needs
+
+slice-aggregate-with-text-10 : tie.Need-slice-aggregate-with-text-10
+slice-aggregate-with-text-10 c = search needs
+
+with-text-requires-10 : tie.Need-with-text-requires-10
+with-text-requires-10 c κs = search needs
+
 returns : tie.Need-returns
 returns c = rw (c .before .before .enum-told .given .1) (c .with-text .ensures)
 
@@ -101,6 +119,12 @@ returns-7 c = rw (c .before .before .enum-told7 .given .1) (c .with-text7 .ensur
 
 returns-8 : tie.Need-returns-8
 returns-8 c = rw (c .before .before .enum-told8 .given .1) (c .with-text8 .ensures)
+
+returns-9 : tie.Need-returns-9
+returns-9 c = rw (c .before .before .enum-told9 .given .1) (c .with-text9 .ensures)
+
+returns-10 : tie.Need-returns-10
+returns-10 c = rw (c .before .before .enum-told10 .given .1) (c .with-text10 .ensures)
 
 pub with-kind-spec : {M : Type 1} → statement M
 with-kind-spec =
@@ -130,6 +154,12 @@ with-kind-spec =
     enum-told-8
     slice-aggregate-with-text-8
     with-text-requires-8
+    enum-told-9
+    slice-aggregate-with-text-9
+    with-text-requires-9
+    enum-told-10
+    slice-aggregate-with-text-10
+    with-text-requires-10
     returns
     returns-2
     returns-3
@@ -137,4 +167,6 @@ with-kind-spec =
     returns-5
     returns-6
     returns-7
-    returns-8)
+    returns-8
+    returns-9
+    returns-10)

@@ -10,7 +10,9 @@ use Rattle.events.proofs.reads.Reads as reads-reads
 use Rattle.events.proofs.shares.Reads as shares-reads
 use Rattle.events.proofs.writes.Reads as writes-reads
 use Rattle.manager.proofs.begin.begin.Reads as begin-reads
+use Rattle.manager.proofs.cancel.cancel.Reads as cancel-reads
 use Rattle.manager.proofs.deliver.deliver.Reads as deliver-reads
+use Rattle.manager.proofs.evict.evict.Reads as evict-reads
 use Rattle.manager.proofs.finish.finish.Reads as finish-reads
 use Rattle.manager.proofs.grant.grant.Reads as grant-reads
 use Rattle.manager.proofs.open.open.Reads as open-reads
@@ -75,6 +77,18 @@ enum-told-8 c = search needs
 deliver-requires : tie.Need-deliver-requires
 deliver-requires c κs = search needs
 
+enum-told-9 : tie.Need-enum-told-9
+enum-told-9 c = search needs
+
+evict-requires : tie.Need-evict-requires
+evict-requires c κs = search needs
+
+enum-told-10 : tie.Need-enum-told-10
+enum-told-10 c = search needs
+
+cancel-requires : tie.Need-cancel-requires
+cancel-requires c κs = search needs
+
 returns : tie.Need-returns
 returns c =
     let s = c .before .before .before .before .before in
@@ -116,6 +130,16 @@ returns-8 c =
     let s = c .before .before .before .before in
     did-read (s .pre .1) (s .args .s) Kind.Deliver (c .before .enum-told8 .given .1) (c .deliver .ensures)
 
+returns-9 : tie.Need-returns-9
+returns-9 c =
+    let s = c .before .before .before .before in
+    did-read (s .pre .1) (s .args .s) Kind.Evict (c .before .enum-told9 .given .1) (c .evict .ensures)
+
+returns-10 : tie.Need-returns-10
+returns-10 c =
+    let s = c .before .before .before .before in
+    did-read (s .pre .1) (s .args .s) Kind.Cancel (c .before .enum-told10 .given .1) (c .cancel .ensures)
+
 pub called-spec : {M : Type 1} → statement M
 called-spec =
     tie.close
@@ -139,6 +163,10 @@ called-spec =
     pick-requires
     enum-told-8
     deliver-requires
+    enum-told-9
+    evict-requires
+    enum-told-10
+    cancel-requires
     returns
     returns-2
     returns-3
@@ -146,4 +174,6 @@ called-spec =
     returns-5
     returns-6
     returns-7
-    returns-8)
+    returns-8
+    returns-9
+    returns-10)

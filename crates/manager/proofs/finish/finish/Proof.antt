@@ -20,7 +20,7 @@ use Rattle.manager.proofs.Done.{tenant-refused}
 use Rattle.manager.proofs.Billing.{billing, billed-did}
 use Rattle.manager.proofs.Slots.{Slotted, slotted}
 use Rattle.manager.proofs.Rows.{own-meter, absent-is, entry-is, finish-rows}
-use Rattle.manager.proofs.Leaving.{gone-did}
+use Rattle.manager.proofs.Leaving.{finish-did}
 use borrow.Author.Needs.{needs}
 use Rattle.manager.proofs.finish.finish.Statement.{statement}
 use Rattle.manager.proofs.finish.finish.Tie as tie
@@ -160,7 +160,7 @@ returns-2 : tie.Need-returns-2 Inv-loop μ-loop
 returns-2 c =
     let n = c .before .before in
     let s = begun n in
-    gone-did (s .pre) (s .args .who) (s .args .serial) (stood (looked-up (n .before .before))) (sym (number-is n) ∙ c .before .if4 .left) (c .released .ensures)
+    finish-did (s .pre) (s .args .who) (s .args .serial) (stood (looked-up (n .before .before))) (sym (number-is n) ∙ c .before .if4 .left) (c .released .ensures)
 
 pub finish-spec : {M : Type 1} → statement M
 finish-spec =

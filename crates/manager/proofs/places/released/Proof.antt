@@ -24,10 +24,10 @@ use Rattle.entry.proofs.few.Reads as few-reads
 use Rattle.counters.proofs.lower.Reads as lower-reads
 
 abbrev Inv-loop : tie.InvT-loop
-Inv-loop at n₀ nr nw last j₀ n j = (at ≤ j) × (j ≤ last) × Shifted at j (n₀ .entries) (n .entries) × Framed n₀ n
+Inv-loop at burnt n₀ nr nw last j₀ n j = (at ≤ j) × (j ≤ last) × Shifted at j (n₀ .entries) (n .entries) × Framed n₀ n
 
 abbrev μ-loop : tie.MeasureT-loop
-μ-loop at n₀ nr nw last j₀ n j = last - j
+μ-loop at burnt n₀ nr nw last j₀ n j = last - j
 
 slots : (c : tie.Start Inv-loop μ-loop) → Slotted (c .args .s)
 slots c = slotted (c .args .s) _ (c .good .0) (c .pre .0)
