@@ -44,6 +44,8 @@ pub fn apply(table: &mut Table, event: Event<'_>) -> Outcome {
         Event::Scan { tenant } => table.scan(tenant),
         Event::Pick => table.pick(),
         Event::Deliver { tenant, serial } => table.deliver(tenant, serial),
+        Event::Evict { tenant, serial } => table.evict(tenant, serial),
+        Event::Cancel { tenant, serial } => table.cancel(tenant, serial),
     }
 }
 
@@ -59,6 +61,8 @@ impl Event<'_> {
             Event::Scan { .. } => "scan",
             Event::Pick => "pick",
             Event::Deliver { .. } => "deliver",
+            Event::Evict { .. } => "evict",
+            Event::Cancel { .. } => "cancel",
         }
     }
 
@@ -71,7 +75,9 @@ impl Event<'_> {
             | Event::Finish { tenant, .. }
             | Event::Recheck { tenant, .. }
             | Event::Scan { tenant }
-            | Event::Deliver { tenant, .. } => Some(tenant),
+            | Event::Deliver { tenant, .. }
+            | Event::Evict { tenant, .. }
+            | Event::Cancel { tenant, .. } => Some(tenant),
         }
     }
 }

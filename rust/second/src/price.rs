@@ -19,6 +19,9 @@ pub fn look(n: u32) -> u32 {
     1 + n
 }
 
+/// Item 7: a tenant's "cancel" for its own Blocked entry, "burning 1".
+pub const CANCEL: u32 = 1;
+
 /// What a refused tenant call burns. A scan cut short is no case of this: it
 /// burns what its walk had burnt.
 pub fn refused(refusal: Refusal) -> u32 {

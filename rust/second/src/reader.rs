@@ -16,8 +16,13 @@ pub mod tag {
     pub const SCAN: u8 = 0x06;
     pub const PICK: u8 = 0x07;
     pub const DELIVER: u8 = 0x08;
+    /// Item 7: "Event tags are 09 and 0B". No record has tag 0A.
+    pub const EVICT: u8 = 0x09;
+    pub const CANCEL: u8 = 0x0B;
 
-    pub const ALL: [u8; 8] = [OPEN, GRANT, BEGIN, FINISH, RECHECK, SCAN, PICK, DELIVER];
+    pub const ALL: [u8; 10] = [
+        OPEN, GRANT, BEGIN, FINISH, RECHECK, SCAN, PICK, DELIVER, EVICT, CANCEL,
+    ];
 }
 
 #[derive(Clone, Copy, Debug, PartialEq, Eq)]
@@ -64,6 +69,14 @@ pub enum Event<'a> {
     },
     Pick,
     Deliver {
+        tenant: u8,
+        serial: u16,
+    },
+    Evict {
+        tenant: u8,
+        serial: u16,
+    },
+    Cancel {
         tenant: u8,
         serial: u16,
     },
@@ -125,6 +138,15 @@ fn read_body(tag: u8, body: &[u8]) -> Option<Event<'_>> {
         (tag::SCAN, &[tenant]) => Event::Scan { tenant },
         (tag::PICK, &[]) => Event::Pick,
         (tag::DELIVER, &[tenant, high, low]) => Event::Deliver {
+            tenant,
+            serial: u16::from_be_bytes([high, low]),
+        },
+        // Item 7: "bodies as for Finish".
+        (tag::EVICT, &[tenant, high, low]) => Event::Evict {
+            tenant,
+            serial: u16::from_be_bytes([high, low]),
+        },
+        (tag::CANCEL, &[tenant, high, low]) => Event::Cancel {
             tenant,
             serial: u16::from_be_bytes([high, low]),
         },

@@ -1,4 +1,4 @@
-//! The state of one partition, the eight calls on it, and Item 5's "held".
+//! The state of one partition, the ten calls on it, and Item 5's "held".
 
 use crate::answer::{Answer, Outcome, Refusal};
 use crate::price;
@@ -107,6 +107,21 @@ impl Table {
         Ok(at)
     }
 
+    /// Item 7's "evict", "for an entry in any state; the host has undone its
+    /// writes".
+    pub fn evict(&mut self, tenant: u8, serial: u16) -> Outcome {
+        Outcome::burning_nothing(match self.find_evictable(tenant, serial) {
+            Ok(at) => self.release(at),
+            Err(refusal) => Answer::Refused(refusal),
+        })
+    }
+
+    /// "Refusals: evict 1, 10, burning 0".
+    fn find_evictable(&self, tenant: u8, serial: u16) -> Result<usize, Refusal> {
+        seat(tenant)?;
+        self.find(tenant, serial)
+    }
+
     /// Item 5's "held", which changes nothing and has no event.
     pub fn held(&self) -> Held {
         let has = |list: fn(&Request) -> &Vec<u8>, record: u8| {
@@ -175,10 +190,7 @@ impl Table {
 
     pub fn finish(&mut self, tenant: u8, serial: u16) -> Outcome {
         match self.find_finishable(tenant, serial) {
-            Ok(at) => {
-                self.queue.remove(at);
-                Outcome::burning_nothing(Answer::Done)
-            }
+            Ok(at) => Outcome::burning_nothing(self.release(at)),
             Err(refusal) => self.refuse(tenant, refusal),
         }
     }
@@ -196,6 +208,28 @@ impl Table {
         self.fuelled_seat(tenant)?;
         found?;
         Err(Refusal::WrongState)
+    }
+
+    /// Item 7's "cancel", by which a tenant takes out "its own Blocked entry".
+    pub fn cancel(&mut self, tenant: u8, serial: u16) -> Outcome {
+        match self.find_cancellable(tenant, serial) {
+            Ok(at) => {
+                // Who is not dry has the price, so that 9 is never due.
+                let burnt = self.burn(tenant, price::CANCEL);
+                Outcome::burning(burnt, self.release(at))
+            }
+            Err(refusal) => self.refuse(tenant, refusal),
+        }
+    }
+
+    /// "cancel 1, 2, 10, then 11 for an entry not Blocked".
+    fn find_cancellable(&self, tenant: u8, serial: u16) -> Result<usize, Refusal> {
+        self.fuelled_seat(tenant)?;
+        let at = self.find(tenant, serial)?;
+        if self.queue[at].state != State::Blocked {
+            return Err(Refusal::WrongState);
+        }
+        Ok(at)
     }
 
     /// Promotes a Blocked entry that conflicts with no other entry in the
@@ -330,6 +364,14 @@ impl Table {
     fn promote(&mut self, at: usize) -> Answer {
         self.queue[at].promote();
         self.answer_entry(at, None)
+    }
+
+    /// An entry leaves, and with it its counts and its place; "the others keep
+    /// their order". Item 7's two calls "refund no fuel", and neither does a
+    /// Finish.
+    fn release(&mut self, at: usize) -> Answer {
+        self.queue.remove(at);
+        Answer::Done
     }
 
     /// The tenant's next serial, from 1.

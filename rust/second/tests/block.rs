@@ -5,8 +5,8 @@
 mod common;
 
 use common::{burning, busy, said};
-use second::block::{call, read, write, Broken, ListFault, Place, BYTES, CLAUSES};
-use second::{apply, Answer, Event, State, Table};
+use second::block::{self, call, read, write, Broken, ListFault, Place, BYTES, CLAUSES};
+use second::{apply, Answer, Event, Held, State, Table};
 
 /// The block of `busy`, put down by hand. The fields begin at 0, 19, 118, 377
 /// and 636, their bodies 3 bytes later.
@@ -94,6 +94,8 @@ fn assert_all_refused(block: &[u8]) {
             Event::Scan { tenant },
             Event::Pick,
             Event::Deliver { tenant, serial },
+            Event::Evict { tenant, serial },
+            Event::Cancel { tenant, serial },
         ];
         for event in calls {
             let mut after = block.to_vec();
@@ -694,6 +696,62 @@ fn calls_change_the_bytes_they_should() {
     assert_eq!(said(call(&mut block, finish(1, 2))), "done 0");
     assert_eq!(said(call(&mut block, Event::Pick)), "waiting:2.1 0");
     assert_eq!(block[640..650], [2, 0, 1, 1, 1, 1, 1, 1, 11, 10]);
+}
+
+/// Item 7: "Both release counters and place, refund no fuel". Each entry of the
+/// busy block, of each state and at each end, with the bytes that it leaves.
+#[test]
+fn what_is_taken_out_leaves_the_block() {
+    let evict = |tenant, serial| Event::Evict { tenant, serial };
+    let cancel = |tenant, serial| Event::Cancel { tenant, serial };
+    let second: &[u8] = &[1, 0, 2, 1, 2, 2, 0, 1, 20];
+    let third: &[u8] = &[2, 0, 1, 2, 1, 1, 1, 1, 11, 10];
+    // One of the two that write 10 is left, and one of 20 is none.
+    let front: Change<'_> = &[(131, &[1]), (FIRST, second), (SECOND, third)];
+    let middle: Change<'_> = &[(141, &[0]), (SECOND, third)];
+    let last: Change<'_> = &[(131, &[1]), (391, &[0])];
+    let always: Change<'_> = &[(639, &[2]), (THIRD, &[0; 24])];
+    // Tenant 2's fuel of 94 ends at 31.
+    let paid: Change<'_> = &[(31, &[93])];
+    let held = |written, read, either| Held {
+        written,
+        read,
+        either,
+    };
+    let cases: [(Event<'_>, &str, Change<'_>, Change<'_>, Held); 4] = [
+        (evict(1, 1), "done 0", front, &[], held(2, 1, 3)),
+        (evict(1, 2), "done 0", middle, &[], held(1, 1, 2)),
+        (evict(2, 1), "done 0", last, &[], held(2, 0, 2)),
+        (cancel(2, 1), "done 1", last, paid, held(2, 0, 2)),
+    ];
+    for (event, answer, change, burnt, held) in cases {
+        let mut block = busy_block();
+        assert_eq!(said(call(&mut block, event)), answer);
+        assert_eq!(block, changed(&[always, change, burnt].concat()));
+        assert_eq!(block::held(&block), Ok(held));
+        // It is sound, and has no such entry any more.
+        assert_eq!(said(call(&mut block, finish(2, 9))), "refused:10 1");
+        let name = (event.tenant(), event);
+        if let (Some(tenant), Event::Evict { serial, .. } | Event::Cancel { serial, .. }) = name {
+            let again = call(&mut block, evict(tenant, serial));
+            assert_eq!(said(again), "refused:10 0");
+        }
+    }
+    // What is refused burns the cancel's unit at most.
+    let unit: Change<'_> = &[(25, &[91])];
+    let refused: [(Event<'_>, &str, Change<'_>); 6] = [
+        (evict(17, 1), "refused:1 0", &[]),
+        (evict(2, 2), "refused:10 0", &[]),
+        (cancel(0, 1), "refused:1 0", &[]),
+        (cancel(5, 1), "refused:2 0", &[]),
+        (cancel(1, 3), "refused:10 1", unit),
+        (cancel(1, 2), "refused:11 1", unit),
+    ];
+    for (event, answer, change) in refused {
+        let mut block = busy_block();
+        assert_eq!(said(call(&mut block, event)), answer);
+        assert_eq!(block, changed(change));
+    }
 }
 
 /// Item 4: "it raises Cx and not Cs, is counted once in n, and is stored among

@@ -58,6 +58,37 @@ fn every_record_has_its_line() {
     assert_eq!(after_open(&bytes), lines);
 }
 
+/// Item 7: "Event tags are 09 and 0B, bodies as for Finish."
+#[test]
+fn an_evict_and_a_cancel_have_their_lines() {
+    let bytes = [
+        &[0x02, 0, 5, 1, 0, 0, 0, 20][..],
+        &[0x02, 0, 5, 2, 0, 0, 0, 20],
+        &[0x03, 0, 4, 1, 0, 0, 7],
+        &[0x03, 0, 4, 2, 0, 0, 7],
+        &[0x0B, 0, 3, 1, 0, 1],
+        &[0x0B, 0, 3, 2, 0, 1],
+        &[0x09, 0, 3, 1, 0, 1],
+        &[0x09, 0, 3, 1, 0, 1],
+        &[0x0B, 0, 3, 2, 1, 0],
+        &[0x09, 0, 3, 17, 0, 1],
+        &[0x0B, 0, 3, 0, 0, 1],
+    ]
+    .concat();
+    let lines = "2 grant ok 0 20\n\
+                 3 grant ok 0 20\n\
+                 4 begin free:1.1 4 16\n\
+                 5 begin blocked:2.1@7 4 16\n\
+                 6 cancel refused:11 1 15\n\
+                 7 cancel done 1 15\n\
+                 8 evict done 0 15\n\
+                 9 evict refused:10 0 15\n\
+                 10 cancel refused:10 1 14\n\
+                 11 evict refused:1 0 -\n\
+                 12 cancel refused:1 0 -\n";
+    assert_eq!(after_open(&bytes), lines);
+}
+
 /// Numbers have the high byte first.
 #[test]
 fn numbers_of_more_bytes() {
@@ -75,6 +106,10 @@ fn the_last_field_of_a_refused_call() {
     assert_eq!(after_open(&[0x06, 0, 1, 17]), "2 scan refused:1 0 -\n");
     let deliver = [0x08, 0, 3, 2, 0, 1];
     assert_eq!(after_open(&deliver), "2 deliver refused:10 0 0\n");
+    let evict = [0x09, 0, 3, 2, 0, 1];
+    assert_eq!(after_open(&evict), "2 evict refused:10 0 0\n");
+    let cancel = [0x0B, 0, 3, 2, 0, 1];
+    assert_eq!(after_open(&cancel), "2 cancel refused:2 0 0\n");
 }
 
 /// Refusal 14 is a call's answer: later records run, on shares of 0.
@@ -90,11 +125,14 @@ fn a_refused_open_goes_on() {
     assert_eq!(alone(&file), lines);
 }
 
+/// All but 01 to 09 and 0B, whatever the body: 0A is between Item 7's two tags.
 #[test]
 fn no_20_unknown_tag() {
-    for tag in [0x00, 0x09, 0x10, 0xFF] {
-        assert_eq!(after_open(&[tag, 0, 0]), "2 file refused:20 0 -\n");
-        assert_eq!(alone(&[tag, 0, 0]), "1 file refused:20 0 -\n");
+    for tag in [0x00, 0x0A].into_iter().chain(0x0C..=0xFF) {
+        for record in [&[tag, 0, 0][..], &[tag, 0, 3, 1, 0, 1]] {
+            assert_eq!(after_open(record), "2 file refused:20 0 -\n");
+            assert_eq!(alone(record), "1 file refused:20 0 -\n");
+        }
     }
 }
 
@@ -104,7 +142,12 @@ fn no_21_cut_short() {
     assert_eq!(after_open(&[0x07]), "2 file refused:21 0 -\n");
     assert_eq!(after_open(&[0x07, 0]), "2 file refused:21 0 -\n");
     assert_eq!(after_open(&[0x06, 0, 1]), "2 file refused:21 0 -\n");
-    assert_eq!(after_open(&[0x04, 0, 3, 1, 0]), "2 file refused:21 0 -\n");
+    for tag in [0x04, 0x09, 0x0B] {
+        assert_eq!(after_open(&[tag]), "2 file refused:21 0 -\n");
+        assert_eq!(after_open(&[tag, 0]), "2 file refused:21 0 -\n");
+        assert_eq!(after_open(&[tag, 0, 3]), "2 file refused:21 0 -\n");
+        assert_eq!(after_open(&[tag, 0, 3, 1, 0]), "2 file refused:21 0 -\n");
+    }
     assert_eq!(alone(&open()[..18]), "1 file refused:21 0 -\n");
 }
 
@@ -118,6 +161,8 @@ fn no_22_bad_length() {
         (0x06, 1),
         (0x07, 0),
         (0x08, 3),
+        (0x09, 3),
+        (0x0B, 3),
     ];
     for (tag, length) in suited {
         for bad in (0..=20).filter(|&bad| bad != length) {
@@ -145,6 +190,8 @@ fn no_22_begin() {
 #[test]
 fn no_23_open_out_of_place() {
     assert_eq!(alone(&[0x07, 0, 0]), "1 file refused:23 0 -\n");
+    assert_eq!(alone(&[0x09, 0, 3, 1, 0, 1]), "1 file refused:23 0 -\n");
+    assert_eq!(alone(&[0x0B, 0, 3, 1, 0, 1]), "1 file refused:23 0 -\n");
     assert_eq!(after_open(&open()), "2 file refused:23 0 -\n");
     let mut bytes = vec![0x07, 0, 0];
     bytes.extend_from_slice(&open());

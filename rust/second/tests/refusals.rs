@@ -10,13 +10,15 @@ const NINE: [u8; 9] = [1, 2, 3, 4, 5, 6, 7, 8, 9];
 
 #[test]
 fn no_1_not_a_tenant() {
-    let calls: [fn(&mut Table, u8) -> Outcome; 6] = [
+    let calls: [fn(&mut Table, u8) -> Outcome; 8] = [
         |table, tenant| table.grant(tenant, 5),
         |table, tenant| table.begin(tenant, 0, &[], &[1]),
         |table, tenant| table.finish(tenant, 1),
         |table, tenant| table.recheck(tenant, 1),
         |table, tenant| table.scan(tenant),
         |table, tenant| table.deliver(tenant, 1),
+        |table, tenant| table.evict(tenant, 1),
+        |table, tenant| table.cancel(tenant, 1),
     ];
     let mut table = busy();
     for call in calls {
@@ -33,6 +35,7 @@ fn no_2_dry() {
     assert_refused(&mut table, 5, (2, 0), |table| table.finish(5, 1));
     assert_refused(&mut table, 5, (2, 0), |table| table.recheck(5, 1));
     assert_refused(&mut table, 5, (2, 0), |table| table.scan(5));
+    assert_refused(&mut table, 5, (2, 0), |table| table.cancel(5, 1));
 }
 
 #[test]
@@ -181,6 +184,12 @@ fn no_10_no_such_entry() {
         assert_refused(&mut table, tenant, (10, 0), |table| {
             table.deliver(tenant, serial)
         });
+        assert_refused(&mut table, tenant, (10, 0), |table| {
+            table.evict(tenant, serial)
+        });
+        assert_refused(&mut table, tenant, (10, 1), |table| {
+            table.cancel(tenant, serial)
+        });
     }
     assert_eq!(said(table.finish(1, 1)), "done 0");
     assert_refused(&mut table, 1, (10, 1), |table| table.finish(1, 1));
@@ -193,6 +202,8 @@ fn no_11_wrong_state() {
     assert_refused(&mut table, 2, (11, 1), |table| table.finish(2, 1));
     assert_refused(&mut table, 1, (11, 1), |table| table.recheck(1, 1));
     assert_refused(&mut table, 1, (11, 1), |table| table.recheck(1, 2));
+    assert_refused(&mut table, 1, (11, 1), |table| table.cancel(1, 1));
+    assert_refused(&mut table, 1, (11, 1), |table| table.cancel(1, 2));
 }
 
 #[test]
@@ -306,4 +317,30 @@ fn order_of_scan_deliver_and_grant() {
     table.meters[0].fuel = 0;
     assert_eq!(said(table.deliver(1, 2)), "waiting:1.2 0");
     assert_refused(&mut table, 1, (12, 0), |table| table.deliver(1, 1));
+}
+
+/// "Refusals: evict 1, 10, burning 0; cancel 1, 2, 10, then 11 for an entry not
+/// Blocked, with the table's charges." (Item 7)
+#[test]
+fn order_of_evict_and_cancel() {
+    let mut table = busy();
+    assert_refused(&mut table, 17, (1, 0), |table| table.evict(17, 9));
+    assert_refused(&mut table, 17, (1, 0), |table| table.cancel(17, 9));
+    // Of a dry tank a cancel says so first: no entry, one not Blocked, a Blocked one.
+    table.meters[0].fuel = 0;
+    table.meters[1].fuel = 0;
+    for (tenant, serial) in [(1, 9), (1, 1), (1, 2), (2, 1)] {
+        assert_refused(&mut table, tenant, (2, 0), |table| {
+            table.cancel(tenant, serial)
+        });
+    }
+    assert_refused(&mut table, 1, (10, 0), |table| table.evict(1, 9));
+    // One unit is enough to be told more.
+    for (serial, number) in [(9, 10), (1, 11), (2, 11)] {
+        table.meters[0].fuel = 1;
+        assert_refused(&mut table, 1, (number, 1), |table| table.cancel(1, serial));
+    }
+    table.meters[1].fuel = 1;
+    assert_eq!(said(table.cancel(2, 1)), "done 1");
+    assert_eq!(table.fuel(2), Some(0));
 }
