@@ -11,7 +11,7 @@ use second::{Event, State, Table};
 pub const NO_TENANTS: [u8; 4] = [0, 17, 18, 255];
 
 pub fn aimed(random: &mut Random, table: &Table) -> Call {
-    match random.below(22) {
+    match random.below(26) {
         0..=5 => begin(random, table),
         6..=8 => {
             let (tenant, serial) = name(random, table, State::Free);
@@ -31,6 +31,15 @@ pub fn aimed(random: &mut Random, table: &Table) -> Call {
             Call::Plain(Event::Deliver { tenant, serial })
         }
         19 | 20 => grant(random, table),
+        21 | 22 => {
+            let state = random.one_of(&[State::Free, State::Waiting, State::Blocked]);
+            let (tenant, serial) = name(random, table, state);
+            Call::Plain(Event::Evict { tenant, serial })
+        }
+        23 | 24 => {
+            let (tenant, serial) = name(random, table, State::Blocked);
+            Call::Plain(Event::Cancel { tenant, serial })
+        }
         _ => open(random),
     }
 }

@@ -40,7 +40,9 @@ pub(crate) fn record_line(event: Event<'_>) -> String {
         } => format!("{} {}{}", call, tenant, parts(awaited, reads, writes)),
         Event::Finish { tenant, serial }
         | Event::Recheck { tenant, serial }
-        | Event::Deliver { tenant, serial } => format!("{} {} {}", call, tenant, serial),
+        | Event::Deliver { tenant, serial }
+        | Event::Evict { tenant, serial }
+        | Event::Cancel { tenant, serial } => format!("{} {} {}", call, tenant, serial),
         Event::Scan { tenant } => format!("{} {}", call, tenant),
         Event::Pick => String::from(call),
     }

@@ -10,6 +10,7 @@ use crate::clashscenes::CLASHES;
 use crate::compose::{composed, composed_of, reached, PLACES};
 use crate::random::Random;
 use crate::scenes::{Scene, SCENES};
+use crate::stuckscenes::LEAVINGS;
 use crate::text::Call;
 use second::block::{self, BYTES};
 use second::table::TENANTS;
@@ -37,11 +38,12 @@ pub enum BlockKind {
     Random,
     Open,
     Clash,
+    Stuck,
 }
 
 /// In this order: a kind's place goes into its random numbers, so a new kind
 /// joins at the end.
-pub const BLOCK_KINDS: [(&str, BlockKind); 11] = [
+pub const BLOCK_KINDS: [(&str, BlockKind); 12] = [
     ("reached", BlockKind::Reached),
     ("composed", BlockKind::Composed),
     ("full", BlockKind::Full),
@@ -53,6 +55,7 @@ pub const BLOCK_KINDS: [(&str, BlockKind); 11] = [
     ("random", BlockKind::Random),
     ("open", BlockKind::Open),
     ("clash", BlockKind::Clash),
+    ("stuck", BlockKind::Stuck),
 ];
 
 impl BlockKind {
@@ -160,6 +163,7 @@ impl Cases {
             BlockKind::Refusals => self.scene(),
             BlockKind::Open => self.open(),
             BlockKind::Clash => self.clash(),
+            BlockKind::Stuck => self.stuck(),
             BlockKind::Bytes if every_third => sound("a full queue", random, full),
             BlockKind::Lengths | BlockKind::Random if every_third => {
                 sound("reached by calls", random, reached)
@@ -182,6 +186,12 @@ impl Cases {
     /// The scenes of clashes in turn.
     fn clash(&mut self) -> Case {
         let (what, scene) = CLASHES[self.turn(CLASHES.len())];
+        self.played(0, what, scene)
+    }
+
+    /// The scenes of what is taken out, in turn.
+    fn stuck(&mut self) -> Case {
+        let (what, scene) = LEAVINGS[self.turn(LEAVINGS.len())];
         self.played(0, what, scene)
     }
 

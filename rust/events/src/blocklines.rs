@@ -24,8 +24,8 @@ use std::fs::File;
 use std::io::{self, BufRead, BufReader, BufWriter, Write};
 
 /// The words that a line may start with.
-const WORDS: &str =
-    "block, held, show, explain, open, grant, begin, finish, recheck, scan, pick, deliver";
+const WORDS: &str = "block, held, show, explain, open, grant, begin, finish, recheck, scan, \
+                     pick, deliver, evict, cancel";
 
 /// How many zero bytes the block is before the first line.
 const FRESH_BYTES: usize = 2_176;

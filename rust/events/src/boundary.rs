@@ -75,7 +75,7 @@ fn good_start(random: &mut Random) -> Sheet {
 }
 
 fn tag_but_open(random: &mut Random) -> u8 {
-    random.byte_between(tag::GRANT, tag::DELIVER)
+    random.one_of(&tag::ALL[1..])
 }
 
 fn empty(_random: &mut Random) -> Vec<u8> {
@@ -106,7 +106,7 @@ fn one_or_two_bytes_left(random: &mut Random) -> Vec<u8> {
 /// not suit the tag.
 fn body_past_the_end(random: &mut Random) -> Vec<u8> {
     let mut file = good_start(random).into_bytes();
-    let tag = random.one_of(&[tag::OPEN, tag::GRANT, tag::BEGIN, tag::FINISH, tag::PICK]);
+    let tag = random.one_of(&tag::ALL);
     let length = suited_length(tag) + random.one_of(&[1, 1, 200]);
     file.extend(record(tag, length));
     let missing = random.one_of(&[1, length]);
@@ -171,7 +171,15 @@ fn first_not_open(random: &mut Random) -> Vec<u8> {
 
 /// 22 comes before 23.
 fn first_not_open_of_bad_length(random: &mut Random) -> Vec<u8> {
-    let tag = random.one_of(&[tag::GRANT, tag::FINISH, tag::SCAN, tag::PICK]);
+    let tags = [
+        tag::GRANT,
+        tag::FINISH,
+        tag::SCAN,
+        tag::PICK,
+        tag::EVICT,
+        tag::CANCEL,
+    ];
+    let tag = random.one_of(&tags);
     let mut file = record(tag, suited_length(tag) + 1);
     file.extend(good_start(random).into_bytes());
     file
@@ -199,6 +207,8 @@ fn bad_length(random: &mut Random) -> Vec<u8> {
         tag::SCAN,
         tag::PICK,
         tag::DELIVER,
+        tag::EVICT,
+        tag::CANCEL,
     ];
     let tag = random.one_of(&fixed);
     let length = suited_length(tag);
@@ -237,10 +247,11 @@ fn r_at_its_limit(random: &mut Random) -> Vec<u8> {
     sheet.into_bytes_with(tag::BEGIN, &body)
 }
 
-/// Complete, or with a body past the end, where 20 still comes first.
+/// Complete, or with a body past the end, where 20 still comes first. 0A stands
+/// between the tags of an Evict and a Cancel.
 fn unknown_tag(random: &mut Random) -> Vec<u8> {
-    let drawn = random.byte_between(0x09, 0xFF);
-    let tag = random.one_of(&[0x00, 0x09, 0xFF, drawn]);
+    let drawn = random.byte_between(0x0C, 0xFF);
+    let tag = random.one_of(&[0x00, 0x0A, 0x0A, 0x0C, 0xFF, drawn]);
     let sheet = good_start(random);
     let mut file = if random.chance(20) {
         Vec::new()
@@ -318,8 +329,12 @@ fn number_limits(random: &mut Random) -> Vec<u8> {
             sheet.deliver((tenant, serial));
             sheet.recheck((tenant, serial));
             sheet.finish((tenant, serial));
+            sheet.cancel((tenant, serial));
         }
         sheet.scan(tenant);
+        for serial in [0, random.one_of(&[1, 2]), 65_535] {
+            sheet.evict((tenant, serial));
+        }
     }
     sheet.into_bytes()
 }

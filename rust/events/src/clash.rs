@@ -140,7 +140,7 @@ fn none_holds_it(random: &mut Random, sheet: &mut Sheet) {
 }
 
 /// The records that no entry has, rising.
-fn unheld(sheet: &Sheet) -> Vec<u8> {
+pub(crate) fn unheld(sheet: &Sheet) -> Vec<u8> {
     let held = |record: &u8| {
         let mut queue = sheet.table.queue.iter().map(|entry| &entry.request);
         queue.any(|request| request.reads.contains(record) || request.writes.contains(record))

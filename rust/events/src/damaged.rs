@@ -47,7 +47,18 @@ fn flip_bytes(random: &mut Random, file: &mut [u8]) {
 fn change_tag(random: &mut Random, file: &mut [u8]) {
     let at = random.one_of(&record_starts(file));
     let drawn = random.byte();
-    file[at] = random.one_of(&[0x00, 0x09, 0xFF, drawn, tag::OPEN, tag::PICK, tag::BEGIN]);
+    let tags = [
+        0x00,
+        0x0A,
+        0xFF,
+        drawn,
+        tag::OPEN,
+        tag::PICK,
+        tag::BEGIN,
+        tag::EVICT,
+        tag::CANCEL,
+    ];
+    file[at] = random.one_of(&tags);
 }
 
 fn change_length(random: &mut Random, file: &mut [u8]) {
@@ -81,7 +92,7 @@ fn random_records(random: &mut Random, file: &mut Vec<u8>) {
         file.truncate(at);
     }
     for _ in 0..random.between(1, 40) {
-        let tag = random.byte_between(tag::GRANT, tag::DELIVER);
+        let tag = random.one_of(&tag::ALL[1..]);
         let mut length = match tag {
             tag::GRANT => 5,
             tag::BEGIN => random.between(3, 12),

@@ -21,6 +21,8 @@ pub fn encode(event: Event<'_>, out: &mut Vec<u8>) -> Result<(), String> {
         Event::Scan { tenant } => (tag::SCAN, vec![tenant]),
         Event::Pick => (tag::PICK, Vec::new()),
         Event::Deliver { tenant, serial } => (tag::DELIVER, name_body(tenant, serial)),
+        Event::Evict { tenant, serial } => (tag::EVICT, name_body(tenant, serial)),
+        Event::Cancel { tenant, serial } => (tag::CANCEL, name_body(tenant, serial)),
     };
     encode_parts(tag, &body, out)
 }

@@ -8,6 +8,7 @@ use crate::load::{deep, mixed, remote, scarce};
 use crate::overlap::overlap;
 use crate::random::Random;
 use crate::refusals::refusals;
+use crate::stuck::stuck;
 use crate::worst::worst;
 
 #[derive(Clone, Copy, Debug, PartialEq, Eq)]
@@ -23,11 +24,12 @@ pub enum Kind {
     Early,
     Overlap,
     Clash,
+    Stuck,
 }
 
 /// In this order: a kind's place goes into its random numbers, so a new kind
 /// joins at the end.
-pub const KINDS: [(&str, Kind); 11] = [
+pub const KINDS: [(&str, Kind); 12] = [
     ("mixed", Kind::Mixed),
     ("deep", Kind::Deep),
     ("scarce", Kind::Scarce),
@@ -39,6 +41,7 @@ pub const KINDS: [(&str, Kind); 11] = [
     ("early", Kind::Early),
     ("overlap", Kind::Overlap),
     ("clash", Kind::Clash),
+    ("stuck", Kind::Stuck),
 ];
 
 impl Kind {
@@ -71,5 +74,6 @@ pub fn generate(seed: u64, kind: Kind) -> Vec<u8> {
         Kind::Early => early(&mut random),
         Kind::Overlap => overlap(&mut random),
         Kind::Clash => clash(&mut random),
+        Kind::Stuck => stuck(&mut random),
     }
 }

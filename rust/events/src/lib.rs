@@ -4,8 +4,8 @@
 //! - `text`: readable text to bytes; `back`: bytes to readable text.
 //! - `blocklines`: text that drives a block of Item 1, for whoever keeps one.
 //! - `blockkinds`: the kinds of generated block case, made of a sound state
-//!   (`compose`), a call that suits it (`aim`, `scenes`, `clashscenes`), and a
-//!   clause of a sound block broken by itself (`breaks`).
+//!   (`compose`), a call that suits it (`aim`, `scenes`, `clashscenes`,
+//!   `stuckscenes`), and a clause of a sound block broken by itself (`breaks`).
 //! - `kinds`: the kinds of generated file, and `long`: long files to measure
 //!   with. Each is made with `random` (the numbers) and `sheet` (the file so far
 //!   with the state it leads to).
@@ -34,5 +34,7 @@ mod refusals;
 pub mod scenes;
 mod sheet;
 pub mod show;
+mod stuck;
+pub mod stuckscenes;
 pub mod text;
 mod worst;

@@ -16,10 +16,13 @@ enum Call {
     Pick,
     Deliver,
     Grant,
+    Evict,
+    Cancel,
 }
 
-/// Calls with how often they come, relative to each other.
-type Weights = [(Call, usize); 7];
+/// Calls with how often they come, relative to each other. Those that are not
+/// there never come.
+type Weights = &'static [(Call, usize)];
 
 struct Load {
     tenants: u8,
@@ -67,13 +70,21 @@ impl Load {
                 let due = sheet.names(|entry| entry.due > 0);
                 sheet.deliver(self.aim(random, &due));
             }
+            Call::Evict => {
+                let any = sheet.names(|_| true);
+                sheet.evict(self.aim(random, &any));
+            }
+            Call::Cancel => {
+                let blocked = sheet.names_in(State::Blocked);
+                sheet.cancel(self.aim(random, &blocked));
+            }
         }
     }
 
     fn weighted_call(&self, random: &mut Random) -> Call {
         let total = self.weights.iter().map(|(_, weight)| weight).sum();
         let mut drawn = random.below(total);
-        for &(call, weight) in &self.weights {
+        for &(call, weight) in self.weights {
             if drawn < weight {
                 return call;
             }
@@ -149,7 +160,7 @@ fn mixed_load(random: &mut Random) -> Load {
         least_grant: 20,
         most_grant: 400,
         astray: 5,
-        weights: [
+        weights: &[
             (Call::Begin, 34),
             (Call::Finish, 20),
             (Call::Recheck, 12),
@@ -157,6 +168,8 @@ fn mixed_load(random: &mut Random) -> Load {
             (Call::Pick, 6),
             (Call::Deliver, 12),
             (Call::Grant, 6),
+            (Call::Evict, 3),
+            (Call::Cancel, 3),
         ],
     }
 }
@@ -197,7 +210,7 @@ pub fn deep(random: &mut Random) -> Vec<u8> {
         least_grant: 500,
         most_grant: 5_000,
         astray: 1,
-        weights: [
+        weights: &[
             (Call::Begin, 90),
             (Call::Finish, 2),
             (Call::Recheck, 2),
@@ -211,7 +224,7 @@ pub fn deep(random: &mut Random) -> Vec<u8> {
     load.grant_all(random, &mut sheet);
     let rush = random.between(60, 140);
     load.steps(random, &mut sheet, rush);
-    load.weights = [
+    load.weights = &[
         (Call::Begin, 8),
         (Call::Finish, 34),
         (Call::Recheck, 8),
@@ -238,7 +251,7 @@ pub fn scarce(random: &mut Random) -> Vec<u8> {
         least_grant: 0,
         most_grant: random.between(3, 16),
         astray: 4,
-        weights: [
+        weights: &[
             (Call::Begin, 28),
             (Call::Finish, 12),
             (Call::Recheck, 14),
@@ -286,7 +299,7 @@ pub fn remote(random: &mut Random) -> Vec<u8> {
         least_grant: 200,
         most_grant: 2_000,
         astray: 4,
-        weights: [
+        weights: &[
             (Call::Begin, 26),
             (Call::Finish, 14),
             (Call::Recheck, 12),

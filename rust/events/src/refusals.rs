@@ -77,14 +77,16 @@ fn few_records(random: &mut Random) -> Lists {
     Lists::drawn(random, &pool, reads, 1)
 }
 
-/// Makes one of the six calls that name a tenant.
+/// Makes one of the eight calls that name a tenant.
 fn any_call(random: &mut Random, sheet: &mut Sheet, name: Name) {
-    match random.below(6) {
+    match random.below(8) {
         0 => sheet.grant(name.0, 10),
         1 => sheet.begin(name.0, 0, &few_records(random)),
         2 => sheet.finish(name),
         3 => sheet.recheck(name),
         4 => sheet.scan(name.0),
+        5 => sheet.evict(name),
+        6 => sheet.cancel(name),
         _ => sheet.deliver(name),
     };
 }
@@ -103,11 +105,12 @@ fn no_such_tenant(random: &mut Random, sheet: &mut Sheet) {
 fn dry(random: &mut Random, sheet: &mut Sheet) {
     let tenant = random.one_of(&DRY);
     let serial = random.between(0, 2) as u16;
-    match random.below(5) {
+    match random.below(6) {
         0 => sheet.begin(tenant, 0, &few_records(random)),
         1 => sheet.begin(tenant, 99, &Lists::writing(&[7, 7])),
         2 => sheet.finish((tenant, serial)),
         3 => sheet.recheck((tenant, serial)),
+        4 => sheet.cancel((tenant, serial)),
         _ => sheet.scan(tenant),
     };
 }
@@ -240,15 +243,17 @@ fn no_such_entry(random: &mut Random, sheet: &mut Sheet) {
         names.push(name);
     }
     let name = random.one_of(&names);
-    match random.below(3) {
+    match random.below(5) {
         0 => sheet.finish(name),
         1 => sheet.recheck(name),
+        2 => sheet.evict(name),
+        3 => sheet.cancel(name),
         _ => sheet.deliver(name),
     };
 }
 
-/// 11: Finish of an entry that is Waiting or Blocked, Recheck of one that is
-/// Waiting or Free.
+/// 11: Finish of an entry that is Waiting or Blocked, Recheck or Cancel of one
+/// that is Waiting or Free.
 fn wrong_state(random: &mut Random, sheet: &mut Sheet) {
     let not_free = sheet.names(|entry| entry.state != State::Free);
     if let Some(name) = random.any_of(&not_free) {
@@ -256,7 +261,10 @@ fn wrong_state(random: &mut Random, sheet: &mut Sheet) {
     }
     let not_blocked = sheet.names(|entry| entry.state != State::Blocked);
     if let Some(name) = random.any_of(&not_blocked) {
-        sheet.recheck(name);
+        match random.below(2) {
+            0 => sheet.recheck(name),
+            _ => sheet.cancel(name),
+        };
     }
 }
 

@@ -1,7 +1,7 @@
 //! Scenes on a sound state: it is changed a little, and so that it stays sound,
 //! and a call is made that must be refused with one number (5 is no longer given),
-//! must just succeed where a unit, a place or a serial less would not do, or must
-//! promote an entry that got answers while it was Blocked.
+//! must just succeed where a unit, a place or a serial less would not do, must
+//! promote an entry that got answers while it was Blocked, or must take one out.
 
 use crate::aim::{begin_of, near_lists, open, tenants_with_a_place, NO_TENANTS};
 use crate::compose::held;
@@ -15,12 +15,13 @@ use second::{apply, price, Answer, Entry, Event, State, Table};
 pub type Scene = fn(&mut Random, &mut Table) -> Option<Call>;
 
 /// The refusal that must come, 0 for none, and what the scene is.
-pub const SCENES: [(u8, &str, Scene); 37] = [
+pub const SCENES: [(u8, &str, Scene); 47] = [
     (1, "no such tenant", no_such_tenant),
     (2, "begin on a dry tank", dry_begin),
     (2, "recheck on a dry tank", dry_recheck),
     (2, "scan on a dry tank", dry_scan),
     (2, "finish on a dry tank, not Free", dry_finish),
+    (2, "cancel on a dry tank", dry_cancel),
     (3, "too many records", too_many_records),
     (
         3,
@@ -47,8 +48,12 @@ pub const SCENES: [(u8, &str, Scene); 37] = [
     (10, "finish of no entry", finish_of_none),
     (10, "recheck of no entry", recheck_of_none),
     (10, "deliver to no entry", deliver_to_none),
+    (10, "evict of no entry", evict_of_none),
+    (10, "cancel of no entry", cancel_of_none),
+    (10, "cancel of another's entry", cancel_of_anothers),
     (11, "finish of an entry not Free", finish_not_free),
     (11, "recheck of an entry not Blocked", recheck_not_blocked),
+    (11, "cancel of an entry not Blocked", cancel_not_blocked),
     (12, "deliver with none due", none_due),
     (13, "a grant too big", grant_too_big),
     (14, "shares too high or not 16", bad_shares),
@@ -65,6 +70,11 @@ pub const SCENES: [(u8, &str, Scene); 37] = [
     (0, "recheck with answers in", recheck_answered),
     (0, "scan with answers in", scan_answered),
     (0, "pick with answers in", pick_answered),
+    (0, "evict of a Free entry", evict_free),
+    (0, "evict of a Waiting entry", evict_waiting),
+    (0, "evict of a Blocked entry", evict_blocked),
+    (0, "evict on a dry tank", evict_on_dry),
+    (0, "cancel at its price", cancel_at_price),
 ];
 
 pub(crate) fn meter(table: &mut Table, tenant: u8) -> &mut Meter {
@@ -114,12 +124,14 @@ fn with_a_place(random: &mut Random, table: &mut Table) -> u8 {
 fn no_such_tenant(random: &mut Random, table: &mut Table) -> Option<Call> {
     let tenant = random.one_of(&NO_TENANTS);
     let serial = random.one_of(&[0, 1, 2, u16::MAX]);
-    Some(match random.below(6) {
+    Some(match random.below(8) {
         0 => begin_of(tenant, 0, near_lists(random, table)),
         1 => Call::Plain(Event::Finish { tenant, serial }),
         2 => Call::Plain(Event::Recheck { tenant, serial }),
         3 => Call::Plain(Event::Scan { tenant }),
         4 => Call::Plain(Event::Deliver { tenant, serial }),
+        5 => Call::Plain(Event::Evict { tenant, serial }),
+        6 => Call::Plain(Event::Cancel { tenant, serial }),
         _ => Call::Plain(Event::Grant { tenant, amount: 7 }),
     })
 }
@@ -153,6 +165,15 @@ fn dry_finish(random: &mut Random, table: &mut Table) -> Option<Call> {
     let (tenant, serial) = not_free.unwrap_or((any_tenant(random), 0));
     meter(table, tenant).fuel = 0;
     Some(Call::Plain(Event::Finish { tenant, serial }))
+}
+
+/// Of a Blocked entry, of any other, or of none.
+fn dry_cancel(random: &mut Random, table: &mut Table) -> Option<Call> {
+    let any = random.chance(30);
+    let found = entry(random, table, |entry| any || entry.state == State::Blocked);
+    let (tenant, serial) = found.unwrap_or((any_tenant(random), 1));
+    meter(table, tenant).fuel = 0;
+    Some(Call::Plain(Event::Cancel { tenant, serial }))
 }
 
 /// Nine or more in a list; whether they rise comes later.
@@ -378,6 +399,66 @@ fn recheck_of_none(random: &mut Random, table: &mut Table) -> Option<Call> {
 fn deliver_to_none(random: &mut Random, table: &mut Table) -> Option<Call> {
     let (tenant, serial) = no_entry(random, table)?;
     Some(Call::Plain(Event::Deliver { tenant, serial }))
+}
+
+/// At times on a dry tank, which a host call does not ask about.
+fn evict_of_none(random: &mut Random, table: &mut Table) -> Option<Call> {
+    let (tenant, serial) = no_entry(random, table)?;
+    if random.chance(30) {
+        meter(table, tenant).fuel = 0;
+    }
+    Some(Call::Plain(Event::Evict { tenant, serial }))
+}
+
+fn cancel_of_none(random: &mut Random, table: &mut Table) -> Option<Call> {
+    let (tenant, serial) = no_entry(random, table)?;
+    Some(Call::Plain(Event::Cancel { tenant, serial }))
+}
+
+/// The serial of a Blocked entry, by a tenant that has none of that serial.
+fn cancel_of_anothers(random: &mut Random, table: &mut Table) -> Option<Call> {
+    let (_, serial) = entry(random, table, |entry| entry.state == State::Blocked)?;
+    let tenant = fuelled(random, table);
+    let mut queue = table.queue.iter();
+    if queue.any(|entry| (entry.tenant, entry.serial) == (tenant, serial)) {
+        return None;
+    }
+    Some(Call::Plain(Event::Cancel { tenant, serial }))
+}
+
+fn cancel_not_blocked(random: &mut Random, table: &mut Table) -> Option<Call> {
+    let (tenant, serial) = entry(random, table, |entry| entry.state != State::Blocked)?;
+    Some(Call::Plain(Event::Cancel { tenant, serial }))
+}
+
+/// The last unit of the tank, or one of two.
+fn cancel_at_price(random: &mut Random, table: &mut Table) -> Option<Call> {
+    let (tenant, serial) = entry(random, table, |entry| entry.state == State::Blocked)?;
+    meter(table, tenant).fuel = price::CANCEL + random.one_of(&[0, 0, 1]);
+    Some(Call::Plain(Event::Cancel { tenant, serial }))
+}
+
+fn evict_in(random: &mut Random, table: &mut Table, state: State) -> Option<Call> {
+    let (tenant, serial) = entry(random, table, |entry| entry.state == state)?;
+    Some(Call::Plain(Event::Evict { tenant, serial }))
+}
+
+fn evict_free(random: &mut Random, table: &mut Table) -> Option<Call> {
+    evict_in(random, table, State::Free)
+}
+
+fn evict_waiting(random: &mut Random, table: &mut Table) -> Option<Call> {
+    evict_in(random, table, State::Waiting)
+}
+
+fn evict_blocked(random: &mut Random, table: &mut Table) -> Option<Call> {
+    evict_in(random, table, State::Blocked)
+}
+
+fn evict_on_dry(random: &mut Random, table: &mut Table) -> Option<Call> {
+    let (tenant, serial) = entry(random, table, |_| true)?;
+    meter(table, tenant).fuel = 0;
+    Some(Call::Plain(Event::Evict { tenant, serial }))
 }
 
 fn finish_not_free(random: &mut Random, table: &mut Table) -> Option<Call> {

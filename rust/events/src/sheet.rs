@@ -67,6 +67,14 @@ impl Sheet {
         self.call(Event::Deliver { tenant, serial })
     }
 
+    pub fn evict(&mut self, (tenant, serial): Name) -> Outcome {
+        self.call(Event::Evict { tenant, serial })
+    }
+
+    pub fn cancel(&mut self, (tenant, serial): Name) -> Outcome {
+        self.call(Event::Cancel { tenant, serial })
+    }
+
     /// Grants what a tank lacks of that much fuel.
     pub fn fuel_up(&mut self, tenant: u8, wanted: u32) {
         let left = self.fuel(tenant);

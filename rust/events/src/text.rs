@@ -11,6 +11,8 @@
 //! scan 2
 //! pick
 //! deliver 1 1
+//! evict 1 1
+//! cancel 2 1
 //! raw 05 00 ff              # bytes that are no well-formed record
 //! ```
 //!
@@ -18,12 +20,13 @@
 //! tenant 200 is a file worth writing, for its refusal.
 
 use crate::encode::encode;
-use second::reader::{Event, MOST_BYTES};
+use second::reader::{tag, Event, MOST_BYTES};
 use second::table::TENANTS;
 use std::fmt;
 
 /// The words that a line may start with.
-pub const WORDS: &str = "open, grant, begin, finish, recheck, scan, pick, deliver, raw";
+pub const WORDS: &str =
+    "open, grant, begin, finish, recheck, scan, pick, deliver, evict, cancel, raw";
 
 const BEGIN_PARTS: [&str; 3] = ["awaited", "reads", "writes"];
 
@@ -48,10 +51,14 @@ pub(crate) const BYTE_ORDER_MARK: &str = "\u{FEFF}";
 /// Whether an input is text, by how it begins: with a blank, a line end or
 /// another printable character of ASCII, or with the byte-order mark. Any other
 /// input is an event file, and so is an empty one. A record begins with its
-/// tag, 01 to 08.
+/// tag, 01 to 09 or 0B. Of these 09, an Evict's, is a blank too: no text goes on
+/// with a zero byte, and an Evict does.
 pub fn is_text(input: &[u8]) -> bool {
-    input.starts_with(BYTE_ORDER_MARK.as_bytes())
-        || matches!(input.first(), Some(b'\t' | b'\n' | b'\r' | b' '..=b'~'))
+    match input {
+        [tag::EVICT, 0, ..] => false,
+        [b'\t' | b'\n' | b'\r' | b' '..=b'~', ..] => true,
+        _ => input.starts_with(BYTE_ORDER_MARK.as_bytes()),
+    }
 }
 
 /// The event bytes of a text, or its first wrong line. They may be more than an
@@ -184,6 +191,14 @@ pub(crate) fn call(word: &str, words: &mut Words<'_>) -> Result<Option<Call>, St
         },
         "pick" => Event::Pick,
         "deliver" => Event::Deliver {
+            tenant: words.byte("tenant")?,
+            serial: words.serial()?,
+        },
+        "evict" => Event::Evict {
+            tenant: words.byte("tenant")?,
+            serial: words.serial()?,
+        },
+        "cancel" => Event::Cancel {
             tenant: words.byte("tenant")?,
             serial: words.serial()?,
         },

@@ -58,6 +58,11 @@ fn calls() {
         amount: 40,
     };
     assert_eq!(parsed("grant 1 40 # fuel"), plain(grant));
+    let (tenant, serial) = (17, 65_535);
+    let evict = Event::Evict { tenant, serial };
+    assert_eq!(parsed("evict 17 65535"), plain(evict));
+    let cancel = Event::Cancel { tenant, serial };
+    assert_eq!(parsed("\tcancel 17 65535 # too late"), plain(cancel));
     let begin = Call::Begin {
         tenant: 200,
         awaited: 1,
@@ -94,12 +99,14 @@ fn lists_of_any_length() {
 #[test]
 fn wrong_lines() {
     let known = "(known: block, held, show, explain, open, grant, begin, finish, recheck, scan, \
-                 pick, deliver)";
+                 pick, deliver, evict, cancel)";
     assert_eq!(wrong("raw 05"), format!("unknown word \"raw\" {}", known));
     assert_eq!(wrong("held 1"), "\"1\" is one word too many");
     assert_eq!(wrong("show all"), "\"all\" is one word too many");
     assert_eq!(wrong("explain it"), "\"it\" is one word too many");
     assert_eq!(wrong("scan 256"), "tenant: 256 is not in 0 to 255");
+    assert_eq!(wrong("evict 1"), "serial is missing");
+    assert_eq!(wrong("cancel 1 2 3"), "\"3\" is one word too many");
     assert_eq!(wrong("open exactly 1 x"), "share: \"x\" is not a number");
     assert_eq!(parse("", b"  # nothing"), Ok(None));
     assert_eq!(parse("", b"\n"), Ok(None));

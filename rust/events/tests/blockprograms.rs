@@ -47,7 +47,7 @@ fn blockgen_writes_the_cases_of_a_seed() {
 #[test]
 fn blockgen_names_its_kinds() {
     let names = "reached\ncomposed\nfull\nrefusals\nbroken\nbytes\nunused\nlengths\nrandom\nopen\n\
-                 clash\n";
+                 clash\nstuck\n";
     assert_eq!(succeeded(blockgen(&["--kinds"])), names.as_bytes());
     let usage = "usage: blockgen SEED KIND [COUNT], or blockgen --kinds\n";
     let wrong: [(&[&str], &str); 5] = [
@@ -74,6 +74,23 @@ fn blocksecond_answers_each_line() {
         "refused:15 0\nok 0\nok 0\nfree:1.1 4\n\
          sound\n    front 1.1 free writes 10\n    Cx 10=1\n    fuel 1=36 2=0, places 1=1/2 2=0/2\n\
          block 11\nrefused:15 0\n"
+    );
+}
+
+/// Item 7's two calls: what is taken out is held no more, and its place is free.
+#[test]
+fn blocksecond_takes_entries_out() {
+    let text = b"open 1 1\ngrant 1 9\ngrant 2 9\nbegin 1 writes 10\nbegin 2 reads 8 writes 10\n\
+                 cancel 1 1\ncancel 2 1\nheld\nevict 1 1\nheld\nevict 1 1\ncancel 2 1\nevict 17 1\n\
+                 explain\nbegin 1 writes 10\nblock 11\nevict 1 1\ncancel 1 1\n";
+    let out = String::from_utf8(succeeded(blocksecond(&[], text))).expect("it is text");
+    assert_eq!(
+        out,
+        "ok 0\nok 0\nok 0\nfree:1.1 4\nblocked:2.1@10 6\n\
+         refused:11 1\ndone 1\nwritten 1 read 0 either 1\ndone 0\nwritten 0 read 0 either 0\n\
+         refused:10 0\nrefused:10 1\nrefused:1 0\n\
+         sound\n    queue empty\n    fuel 1=4 2=1, places 1=0/1 2=0/1\n\
+         free:1.2 4\nrefused:15 0\nrefused:15 0\n"
     );
 }
 

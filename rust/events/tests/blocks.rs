@@ -8,6 +8,7 @@ use events::blocklines::{block_line, parse, Line};
 use events::breaks::BREAKS;
 use events::clashscenes::CLASHES;
 use events::scenes::SCENES;
+use events::stuckscenes::LEAVINGS;
 use second::block::{self, Broken, BYTES, CLAUSES};
 use second::{Answer, Entry, Event, Held, Outcome, State, Table};
 use std::collections::BTreeSet;
@@ -131,6 +132,33 @@ fn scenes_of_clashes_are_what_they_say() {
     assert_eq!(met.len(), 2, "{:?}", met);
 }
 
+/// An entry is taken out, and nothing else changes but for a cancel's unit.
+#[test]
+fn scenes_of_what_is_taken_out_are_what_they_say() {
+    let cases = (0..SEEDS).flat_map(|seed| Cases::new(seed, BlockKind::Stuck).take(CASES));
+    let mut met = BTreeSet::new();
+    for case in cases {
+        let answer = answered(&case);
+        let wanted = ["evict done", "cancel done"];
+        assert!(
+            wanted.contains(&answer.as_str()),
+            "{}: {}",
+            case.what,
+            answer
+        );
+        let before = block::read(&case.block).expect("a scene is sound");
+        let left = named(&case, &before).expect("it was there").clone();
+        let mut expected = before.clone();
+        expected.queue.retain(|entry| *entry != left);
+        let (outcome, after) = made(&case);
+        expected.meters[usize::from(left.tenant) - 1].fuel -= outcome.burnt;
+        assert_eq!(outcome.burnt, u32::from(answer == "cancel done"));
+        assert_eq!(after, block::write(&expected), "{}", case.what);
+        met.insert(answer);
+    }
+    assert_eq!(met.len(), 2, "{:?}", met);
+}
+
 #[test]
 fn a_third_of_each_kind_is_sound() {
     for (name, kind) in BLOCK_KINDS {
@@ -168,6 +196,20 @@ const WANTED: &str = "\
     pick free, pick waiting, pick nothing, pick refused:15,\
     deliver free, deliver waiting, deliver blocked, deliver refused:1, deliver refused:10,\
     deliver refused:12, deliver refused:15,\
+    evict done, evict refused:1, evict refused:10, evict refused:15,\
+    cancel done, cancel refused:1, cancel refused:2, cancel refused:10, cancel refused:11,\
+    cancel refused:15,\
+    evict of a free front, evict of a free middle, evict of a free last, evict of a free only,\
+    evict of a waiting front, evict of a waiting middle, evict of a waiting last,\
+    evict of a waiting only,\
+    evict of a blocked front, evict of a blocked middle, evict of a blocked last,\
+    evict of a blocked only,\
+    cancel of a blocked front, cancel of a blocked middle, cancel of a blocked last,\
+    cancel of a blocked only, cancel refused for a free, cancel refused for a waiting,\
+    evict on a dry tank, cancel with the last unit, cancel with answers in,\
+    evict out of 64, cancel out of 64, evict that clears the way, cancel that clears the way,\
+    evict that leaves a record held, evict that lets a record go,\
+    cancel that leaves a record held, cancel that lets a record go,\
     Length, Head, Unused, Shares, Fuel, Awaited, Count, Due, Tenant, AboveShare, Serial, State,\
     FreeWithDue, WaitingForNothing of 0 awaited, WaitingForNothing of some awaited,\
     BlockedOnNothing, Lists TooManyRecords, Lists NotRising, Lists InBothLists, Counter Cx,\
@@ -193,6 +235,7 @@ fn everything_is_reached_and_nothing_else() {
                 seen.extend(overlap(&case));
                 seen.extend(clash(&case, &table));
                 seen.extend(released(&case, &table));
+                seen.extend(taken_out(&case, &table));
             }
             Err(broken) => {
                 seen.insert(breach(&case.block, &broken));
@@ -273,23 +316,77 @@ fn has(entry: &Entry, record: u8) -> bool {
     entry.request.reads.contains(&record) || entry.request.writes.contains(&record)
 }
 
+/// The entry that a Finish, an Evict or a Cancel names.
+fn named<'a>(case: &Case, before: &'a Table) -> Option<&'a Entry> {
+    let name = match case.call.event() {
+        Event::Finish { tenant, serial }
+        | Event::Evict { tenant, serial }
+        | Event::Cancel { tenant, serial } => (tenant, serial),
+        _ => return None,
+    };
+    let mut queue = before.queue.iter();
+    queue.find(|entry| (entry.tenant, entry.serial) == name)
+}
+
 /// What becomes of the records of an entry that leaves.
 fn released(case: &Case, before: &Table) -> Vec<String> {
-    let (tenant, serial) = match (made(case).0.answer, case.call.event()) {
-        (Answer::Done, Event::Finish { tenant, serial }) => (tenant, serial),
+    let left = match (made(case).0.answer, named(case, before)) {
+        (Answer::Done, Some(left)) => left,
         _ => return Vec::new(),
     };
-    let named = |entry: &&Entry| (entry.tenant, entry.serial) == (tenant, serial);
-    let left = before.queue.iter().find(named).expect("it was there");
     let records = left.request.reads.iter().chain(&left.request.writes);
     let what = records.map(|&record| {
-        let mut others = before.queue.iter().filter(|entry| !named(entry));
+        let mut others = before.queue.iter().filter(|entry| *entry != left);
         match others.any(|entry| has(entry, record)) {
-            true => "finish that leaves a record held",
-            false => "finish that lets a record go",
+            true => "leaves a record held",
+            false => "lets a record go",
         }
     });
-    what.map(String::from).collect()
+    what.map(|what| format!("{} that {}", case.call.event().call(), what))
+        .collect()
+}
+
+/// What is true of an Evict or a Cancel of an entry that is there.
+fn taken_out(case: &Case, before: &Table) -> Vec<String> {
+    let call = case.call.event().call();
+    let (answer, entry) = match (made(case).0.answer, named(case, before)) {
+        (answer, Some(entry)) if call != "finish" => (answer.to_string(), entry),
+        _ => return Vec::new(),
+    };
+    let (queue, state) = (&before.queue, entry.state.word());
+    let fuel = before.fuel(entry.tenant);
+    if answer == "refused:11" {
+        return vec![format!("{} refused for a {}", call, state)];
+    }
+    if answer != "done" {
+        return Vec::new();
+    }
+    let at = queue.iter().position(|other| other == entry);
+    let at = at.expect("it was there");
+    let place = match at {
+        0 if queue.len() == 1 => "only",
+        0 => "front",
+        _ if at + 1 == queue.len() => "last",
+        _ => "middle",
+    };
+    // Some Blocked entry behind conflicts with nothing else ahead.
+    let waits = |behind: usize| {
+        let waiting = &queue[behind];
+        let mut ahead = (0..behind).filter(|&other| waiting.conflicts_with(&queue[other]));
+        waiting.state == State::Blocked && ahead.next() == Some(at) && ahead.next().is_none()
+    };
+    let (evicts, awaited) = (call == "evict", entry.request.awaited);
+    let mut told = vec![format!("{} of a {} {}", call, state, place)];
+    for (what, there) in [
+        ("on a dry tank", evicts && fuel == Some(0)),
+        ("with the last unit", !evicts && fuel == Some(1)),
+        ("with answers in", !evicts && entry.due == 0 && awaited > 0),
+        ("out of 64", queue.len() == 64),
+        ("that clears the way", (at + 1..queue.len()).any(waits)),
+    ] {
+        told.extend(there.then(|| format!("{} {}", call, what)));
+    }
+    told
 }
 
 /// A promotion of an entry that got answers while it was Blocked.
@@ -393,6 +490,10 @@ fn breaks_and_scenes_come_in_turn() {
     let clashes = whats(BlockKind::Clash);
     for (what, _) in CLASHES {
         assert!(clashes.contains(what), "{}", what);
+    }
+    let leavings = whats(BlockKind::Stuck);
+    for (what, _) in LEAVINGS {
+        assert!(leavings.contains(what), "{}", what);
     }
 }
 

@@ -4,7 +4,7 @@
 mod common;
 
 use common::{batch, walk, Step};
-use second::{Entry, Event, State};
+use second::{Entry, Event, State, Table};
 use std::collections::BTreeSet;
 
 const SEEDS: u64 = 150;
@@ -12,7 +12,7 @@ const SEEDS: u64 = 150;
 /// By call, its answers; the refusals in the order of document 01. Refusal 8
 /// needs more Begins than a file holds, and 5 is no longer given. What overlaps
 /// is a Begin with a record in both lists.
-const CALLS: [(&str, &str); 9] = [
+const CALLS: [(&str, &str); 11] = [
     ("open", "ok refused:14"),
     ("grant", "ok refused:1 refused:13"),
     (
@@ -36,6 +36,8 @@ const CALLS: [(&str, &str); 9] = [
         "deliver",
         "free waiting blocked refused:1 refused:10 refused:12",
     ),
+    ("evict", "done refused:1 refused:10"),
+    ("cancel", "done refused:1 refused:2 refused:10 refused:11"),
 ];
 
 /// An entry is answered if it awaited answers and none is due any more.
@@ -62,7 +64,7 @@ const FILE_REFUSALS: [&str; 5] = [
     "file refused:24",
 ];
 
-const SPECIAL: [&str; 10] = [
+const SPECIAL: [&str; 20] = [
     "finish of a free entry on a dry tank",
     "finish refused for a waiting entry",
     "deliver refused for a blocked, answered entry",
@@ -73,6 +75,16 @@ const SPECIAL: [&str; 10] = [
     "still, but nothing ahead is in conflict",
     "scan of 1089",
     "queue of 64",
+    "evict of a free entry",
+    "evict of a waiting entry",
+    "evict of a blocked entry",
+    "evict on a dry tank",
+    "cancel refused for a free entry",
+    "cancel refused for a waiting entry",
+    "cancel refused on a dry tank, for a blocked entry",
+    "cancel that burns the last unit",
+    "cancel of a blocked, answered entry",
+    "cancel of an entry that nothing ahead conflicts with",
 ];
 
 fn wanted() -> BTreeSet<String> {
@@ -119,6 +131,7 @@ fn note(step: &Step<'_>, seen: &mut BTreeSet<String>) {
         seen.insert(format!("{} from {}{} to {}", call, from, answered, to));
     }
     seen.extend(special(step).map(String::from));
+    seen.extend(taken_out(step).into_iter().map(String::from));
     if step.after.queue.len() == 64 {
         seen.insert(String::from("queue of 64"));
     }
@@ -151,6 +164,36 @@ fn special(step: &Step<'_>) -> Option<&'static str> {
     }
 }
 
+/// What is special about an Evict or a Cancel of an entry, in the same words.
+fn taken_out(step: &Step<'_>) -> Vec<&'static str> {
+    let (entry, tenant) = match (step.entry_before(), step.event.tenant()) {
+        (Some(entry), Some(tenant)) => (entry, tenant),
+        _ => return Vec::new(),
+    };
+    let dry = |table: &Table| table.fuel(tenant) == Some(0);
+    let (free, waiting) = (entry.state == State::Free, entry.state == State::Waiting);
+    let blocked = entry.state == State::Blocked;
+    let answer = step.outcome.answer.to_string();
+    let found = match (step.event, answer.as_str()) {
+        (Event::Evict { .. }, "done") => vec![
+            (SPECIAL[10], free),
+            (SPECIAL[11], waiting),
+            (SPECIAL[12], blocked),
+            (SPECIAL[13], dry(step.before)),
+        ],
+        (Event::Cancel { .. }, "refused:11") => vec![(SPECIAL[14], free), (SPECIAL[15], waiting)],
+        (Event::Cancel { .. }, "refused:2") => vec![(SPECIAL[16], blocked)],
+        (Event::Cancel { .. }, "done") => vec![
+            (SPECIAL[17], dry(step.after)),
+            (SPECIAL[18], is_answered(entry)),
+            (SPECIAL[19], nothing_ahead(step)),
+        ],
+        _ => Vec::new(),
+    };
+    let true_ones = found.into_iter().filter(|(_, holds)| *holds);
+    true_ones.map(|(what, _)| what).collect()
+}
+
 fn is_answered(entry: &Entry) -> bool {
     entry.request.awaited > 0 && entry.due == 0
 }
@@ -161,7 +204,7 @@ fn admitted(step: &Step<'_>) -> bool {
 
 /// No entry ahead of the named one is in conflict with it.
 fn nothing_ahead(step: &Step<'_>) -> bool {
-    let named = step.entry_before().expect("a recheck names its entry");
+    let named = step.entry_before().expect("the call names its entry");
     let queue = step.before.queue.iter();
     let mut ahead = queue.take_while(|entry| *entry != named);
     !ahead.any(|entry| entry.request.conflicts_with(&named.request))

@@ -1,7 +1,8 @@
-//! What holds after every call of every generated file: the fuel adds up, the
-//! queue stays sound, refusals leave the state, the verdicts of the plain list
-//! are those of document 01's counters and maps, a promotion is Item 2's, a
-//! request is Item 4's, and a report is Item 5's.
+//! What holds after every call of every generated file: the fuel adds up and is
+//! burnt at its prices, nobody loses fuel or places by another's call but for
+//! Item 7's eviction, the queue stays sound, refusals leave the state, the
+//! verdicts of the plain list are those of document 01's counters and maps, a
+//! promotion is Item 2's, a request is Item 4's, and a report is Item 5's.
 
 mod common;
 
@@ -66,10 +67,105 @@ fn book(account: &mut Account, step: &Step<'_>) {
         Event::Grant { amount, .. } if step.refusal().is_none() => {
             account.granted += u64::from(amount);
         }
-        Event::Grant { .. } | Event::Deliver { .. } => assert_eq!(step.outcome.burnt, 0),
+        Event::Grant { .. } | Event::Deliver { .. } | Event::Evict { .. } => {
+            assert_eq!(step.outcome.burnt, 0);
+        }
         _ if step.refusal() == Some(2) => assert_eq!(step.outcome.burnt, 0),
         _ => account.calls += 1,
     }
+}
+
+/// What a call burns, by document 01 and the items: host calls nothing, whatever
+/// they answer; a tenant call its price, or the table's charge.
+fn due_price(step: &Step<'_>) -> u32 {
+    let n = || step.entry_before().map_or(0, |entry| entry.request.n());
+    match (step.event, step.refusal()) {
+        (
+            Event::Open { .. }
+            | Event::Grant { .. }
+            | Event::Pick
+            | Event::Deliver { .. }
+            | Event::Evict { .. },
+            _,
+        ) => 0,
+        (_, Some(1 | 2)) => 0,
+        (Event::Scan { tenant }, _) => scan_by_maps(step.before, tenant).burnt,
+        (_, Some(_)) => 1,
+        (Event::Begin { .. }, None) => {
+            let (reads, writes) = asked(step).expect("it was admitted");
+            2 + 2 * (reads.len() + writes.len()) as u32
+        }
+        (Event::Finish { .. }, None) => 0,
+        (Event::Recheck { .. }, None) => 1 + n(),
+        (Event::Cancel { .. }, None) => 1,
+    }
+}
+
+/// "report an invented burnt count": what is told is the price, and it is what
+/// the tank lost.
+#[test]
+fn every_call_burns_its_price() {
+    let (mut cancels, mut evictions) = (0, 0);
+    for_each_step(|name, step| {
+        assert_eq!(step.outcome.burnt, due_price(step), "{}", name);
+        let done = step.outcome.answer == Answer::Done;
+        cancels += u32::from(done && step.event.call() == "cancel");
+        evictions += u32::from(done && step.event.call() == "evict");
+        let tenant = match (step.event, step.event.tenant()) {
+            (Event::Grant { .. }, _) => return,
+            (_, Some(tenant)) if (1..=16).contains(&tenant) => tenant,
+            _ => return,
+        };
+        let fuel = |table: &Table| table.fuel(tenant).expect("a tenant");
+        let lost = fuel(step.before) - fuel(step.after);
+        assert_eq!(lost, step.outcome.burnt, "{}", name);
+    });
+    assert!(cancels > 500, "only {} cancels", cancels);
+    assert!(evictions > 1_000, "only {} evictions", evictions);
+}
+
+fn places(table: &Table, tenant: u8) -> usize {
+    let queue = table.queue.iter();
+    queue.filter(|entry| entry.tenant == tenant).count()
+}
+
+/// Demand 3 as Item 7 leaves it: "an eviction may lower a tenant's places, not its
+/// fuel". No other call of the host or of a neighbour lowers either, and no call
+/// takes more than one place.
+#[test]
+fn nobody_loses_by_anothers_call_but_by_an_eviction() {
+    let (mut evicted, mut own) = (0, 0);
+    for_each_step(|name, step| {
+        if step.event.is_open() {
+            return;
+        }
+        let host = matches!(
+            step.event,
+            Event::Grant { .. } | Event::Pick | Event::Deliver { .. } | Event::Evict { .. }
+        );
+        for tenant in 1..=16 {
+            let meter = |table: &Table| table.meters[usize::from(tenant) - 1];
+            let (before, after) = (meter(step.before), meter(step.after));
+            assert_eq!(before.share, after.share, "{}", name);
+            let calls = !host && step.event.tenant() == Some(tenant);
+            assert!(calls || after.fuel >= before.fuel, "{}", name);
+            assert!(calls || after.serials == before.serials, "{}", name);
+            let (before, after) = (places(step.before, tenant), places(step.after, tenant));
+            if after >= before {
+                continue;
+            }
+            assert_eq!(after + 1, before, "{}", name);
+            assert_eq!(step.outcome.answer, Answer::Done, "{}", name);
+            assert_eq!(step.event.tenant(), Some(tenant), "{}", name);
+            match step.event {
+                Event::Evict { .. } => evicted += 1,
+                Event::Finish { .. } | Event::Cancel { .. } => own += 1,
+                event => panic!("{}: {:?}", name, event),
+            }
+        }
+    });
+    assert!(evicted > 1_000, "only {} evicted", evicted);
+    assert!(own > 5_000, "only {} left by their own call", own);
 }
 
 /// A refusal leaves all but the fuel it burns. A call touches no other
@@ -301,7 +397,7 @@ fn a_blocked_begin_tells_its_lowest_clash() {
 }
 
 /// Item 5's "held": the numbers of records with Cx above 0, Cs above 0, either,
-/// after each Finish that takes an entry out.
+/// after each call that takes an entry out.
 #[test]
 fn held_counts_what_the_counters_count() {
     let mut still_held = 0;
@@ -465,6 +561,29 @@ fn every_request_can_leave() {
             let left = last.finish(front.tenant, front.serial);
             assert_eq!(left.answer.to_string(), "done", "{}: {:?}", name, front);
         }
+    }
+}
+
+/// A plugin hung: whatever the calls have led to, the host's Evict alone takes out
+/// each request, in any order, on dry tanks.
+#[test]
+fn every_request_can_be_evicted() {
+    for (name, file) in batch(SEEDS) {
+        let mut last = Table::default();
+        walk(&file, |step| last = step.after.clone());
+        for meter in &mut last.meters {
+            meter.fuel = 0;
+        }
+        let meters = last.meters;
+        for at in (0..last.queue.len()).rev() {
+            // The middle of what is left.
+            let entry = last.queue[at / 2].clone();
+            let left = last.evict(entry.tenant, entry.serial);
+            assert_eq!(left.answer, Answer::Done, "{}: {:?}", name, entry);
+            assert!(!last.queue.contains(&entry), "{}: {:?}", name, entry);
+        }
+        assert!(last.queue.is_empty(), "{}", name);
+        assert_eq!(last.meters, meters, "{}", name);
     }
 }
 

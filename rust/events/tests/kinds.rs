@@ -1,12 +1,13 @@
-//! Each kind of generated file is what its name says; of `overlap` and `clash`
-//! more is said in `overlap.rs` and `clash.rs`.
+//! Each kind of generated file is what its name says; of `overlap`, `clash` and
+//! `stuck` more is said in `overlap.rs`, `clash.rs` and `stuck.rs`.
 
 mod common;
 
 use common::{files, walk, Step};
 use events::kinds::{generate, Kind, KINDS};
+use second::reader::read_record;
 use second::State::{Blocked, Free, Waiting};
-use second::{Answer, Entry, Event};
+use second::{Answer, Entry, Event, FileRefusal};
 use std::collections::BTreeSet;
 
 const SEEDS: u64 = 96;
@@ -82,6 +83,7 @@ fn loads_are_good_files() {
         Kind::Early,
         Kind::Overlap,
         Kind::Clash,
+        Kind::Stuck,
     ];
     for kind in good {
         for file in files(kind, SEEDS) {
@@ -98,6 +100,32 @@ fn mixed_files_answer_in_every_way() {
             step.outcome.answer.to_string().starts_with(answer)
         });
         assert!(with > SEEDS / 2, "{}: {} files", answer, with);
+    }
+    for call in ["evict", "cancel"] {
+        let with = files_with(Kind::Mixed, |step| {
+            step.event.call() == call && step.outcome.answer == Answer::Done
+        });
+        assert!(with > SEEDS / 2, "{}: {} files", call, with);
+    }
+}
+
+/// Item 7's calls are new: the loads that speak of other things, and the kinds of
+/// former items, are without them.
+#[test]
+fn the_other_kinds_take_nothing_out() {
+    for kind in [
+        Kind::Deep,
+        Kind::Scarce,
+        Kind::Remote,
+        Kind::Worst,
+        Kind::Early,
+        Kind::Overlap,
+        Kind::Clash,
+    ] {
+        let with = files_with(kind, |step| {
+            ["evict", "cancel"].contains(&step.event.call())
+        });
+        assert_eq!(with, 0, "{:?}", kind);
     }
 }
 
@@ -213,6 +241,19 @@ fn refusals_files_refuse() {
         let with = files_with(Kind::Refusals, |step| step.refusal() == Some(number));
         assert!(with > SEEDS * 3 / 4, "refusal {}: {} files", number, with);
     }
+    for (call, number) in [
+        ("evict", 1),
+        ("evict", 10),
+        ("cancel", 1),
+        ("cancel", 2),
+        ("cancel", 10),
+        ("cancel", 11),
+    ] {
+        let with = files_with(Kind::Refusals, |step| {
+            step.event.call() == call && step.refusal() == Some(number)
+        });
+        assert!(with > SEEDS / 8, "{} {}: {} files", call, number, with);
+    }
     let overlapping = |step: &Step<'_>| step.overlaps() && step.refusal().is_none();
     let with = files_with(Kind::Refusals, overlapping);
     assert!(with > SEEDS / 2, "a record in both lists: {} files", with);
@@ -258,6 +299,28 @@ fn boundary_files_have_the_sizes_of_the_boundaries() {
     }
     let all: BTreeSet<u8> = (20..=24).collect();
     assert_eq!(refused, all);
+}
+
+/// Some files begin with an Evict or a Cancel, and some end with tag 0A.
+#[test]
+fn boundary_files_have_the_tags_of_item_7() {
+    let mut first = BTreeSet::new();
+    let mut unknown = BTreeSet::new();
+    for file in files(Kind::Boundary, 24 * 40) {
+        first.extend(file.first().copied());
+        let mut rest = &file[..];
+        while let Ok((_, after)) = read_record(rest) {
+            rest = after;
+        }
+        if let (Some(&tag), Some(FileRefusal::UnknownTag)) = (rest.first(), walk(&file, |_| ())) {
+            unknown.insert(tag);
+        }
+    }
+    for tag in [0x09, 0x0B] {
+        assert!(first.contains(&tag), "no file begins with {}", tag);
+        assert!(!unknown.contains(&tag), "{} is known", tag);
+    }
+    assert!(unknown.contains(&0x0A), "0A is never met");
 }
 
 /// A file of exactly 65,536 bytes is read to its end.

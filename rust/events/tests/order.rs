@@ -2,7 +2,8 @@
 //! the one admitted later does not become Free or Waiting before the earlier one
 //! has left the queue." A book is kept of what a shop or the host can see of a
 //! run: each call, its answer, and the queue after it. It finds the generated
-//! files in order, and refuses histories in which the order is broken.
+//! files in order, and refuses histories in which the order is broken. What is
+//! evicted or cancelled (Item 7) has left, as what is finished has.
 
 mod common;
 
@@ -40,6 +41,8 @@ struct Admitted {
     started: Option<u64>,
     /// The call after which it was no longer in the queue.
     left: Option<u64>,
+    /// Whether that was an Evict.
+    evicted: bool,
 }
 
 impl Admitted {
@@ -89,7 +92,7 @@ impl Book {
             return Err(format!("{} is {} in the answer alone", name, state.word()));
         }
         let standing = self.standing(queue)?;
-        let started = self.leave_or_start(&standing)?;
+        let started = self.leave_or_start(event, &standing)?;
         self.nothing_earlier(&standing)?;
         for at in started {
             *self.counts.entry(event.call()).or_insert(0) += 1;
@@ -110,6 +113,7 @@ impl Book {
             begun: self.calls,
             started: None,
             left: None,
+            evicted: false,
         });
         Ok(())
     }
@@ -133,15 +137,31 @@ impl Book {
         Ok(standing)
     }
 
-    /// Who starts by this call. If anybody does, nobody leaves by it.
-    fn leave_or_start(&mut self, standing: &[Standing]) -> Result<Vec<usize>, String> {
+    /// Who starts by this call. If anybody does, nobody leaves by it; and nobody
+    /// leaves but by a call that says so of it.
+    fn leave_or_start(
+        &mut self,
+        event: Event<'_>,
+        standing: &[Standing],
+    ) -> Result<Vec<usize>, String> {
         let (mut started, mut gone) = (Vec::new(), None);
+        let leaver = match event {
+            Event::Finish { tenant, serial }
+            | Event::Evict { tenant, serial }
+            | Event::Cancel { tenant, serial } => Some(Name(tenant, serial)),
+            _ => None,
+        };
         for (at, request) in self.admitted.iter_mut().enumerate() {
             let found = standing.iter().find(|(standing, _)| *standing == at);
             match found.map(|(_, state)| state) {
                 None if request.left.is_none() => {
                     request.left = Some(self.calls);
+                    request.evicted = event.call() == "evict";
                     gone = Some(request.name);
+                    if gone != leaver {
+                        return Err(format!("{} leaves by another's call", request.name));
+                    }
+                    *self.counts.entry(leaving(event)).or_insert(0) += 1;
                 }
                 Some(State::Free | State::Waiting) if request.started.is_none() => {
                     request.started = Some(self.calls);
@@ -177,27 +197,43 @@ impl Book {
 
     /// One has started. Of it and each that conflicts with it and has started too,
     /// the earlier one started first, and had left before the later one started.
+    /// An earlier one that has never started had left before, too.
     fn in_turn(&mut self, at: usize) -> Result<(), String> {
         for other in (0..self.admitted.len()).filter(|&other| other != at) {
             let earlier = &self.admitted[at.min(other)];
             let later = &self.admitted[at.max(other)];
-            let (first, second) = match (earlier.started, later.started) {
-                (Some(first), Some(second)) if earlier.conflicts_with(later) => (first, second),
+            let second = match later.started {
+                Some(second) if earlier.conflicts_with(later) => second,
                 _ => continue,
             };
+            let in_turn = earlier.started.map_or(true, |first| first < second);
             let left = earlier.left.map_or(false, |left| left < second);
-            if first >= second || !left {
+            if !in_turn || !left {
                 let (later, earlier) = (later.name, earlier.name);
                 return Err(format!("{} started before {} had left", later, earlier));
             }
             // The earlier one was in the queue when the later one joined.
             let together = earlier.left > Some(later.begun);
             let one_tenant = earlier.name.0 == later.name.0;
+            let (ran, evicted) = (earlier.started.is_some(), earlier.evicted);
+            let waited = ran && earlier.started > Some(later.begun);
             for (what, holds) in [
-                ("pairs", true),
-                ("queued together, of one tenant", together && one_tenant),
-                ("queued together, of two tenants", together && !one_tenant),
-                ("begun behind a Blocked one", first > later.begun),
+                ("pairs", ran),
+                (
+                    "queued together, of one tenant",
+                    ran && together && one_tenant,
+                ),
+                (
+                    "queued together, of two tenants",
+                    ran && together && !one_tenant,
+                ),
+                ("begun behind a Blocked one", waited),
+                ("behind an evicted one that ran", ran && together && evicted),
+                (
+                    "behind an evicted one that never ran",
+                    !ran && together && evicted,
+                ),
+                ("behind a cancelled one", !ran && together && !evicted),
             ] {
                 *self.counts.entry(what).or_insert(0) += u64::from(holds);
             }
@@ -206,9 +242,19 @@ impl Book {
     }
 }
 
-/// So many at least, of starts by each call and of pairs, and nothing else: no
-/// other call starts a request.
-const AT_LEAST: [(&str, u64); 8] = [
+/// How a request left, for the counts.
+fn leaving(event: Event<'_>) -> &'static str {
+    match event {
+        Event::Evict { .. } => "left by evict",
+        Event::Cancel { .. } => "left by cancel",
+        _ => "left by finish",
+    }
+}
+
+/// So many at least, of starts and leavings by each call and of pairs, and nothing
+/// else: no other call starts a request or takes it out. What is behind an evicted
+/// or a cancelled one was in the queue with it, and started when it had left.
+const AT_LEAST: [(&str, u64); 14] = [
     ("begin", 7_000),
     ("recheck", 400),
     ("scan", 1_500),
@@ -217,6 +263,12 @@ const AT_LEAST: [(&str, u64); 8] = [
     ("queued together, of one tenant", 4_000),
     ("queued together, of two tenants", 15_000),
     ("begun behind a Blocked one", 15_000),
+    ("left by finish", 10_000),
+    ("left by evict", 1_000),
+    ("left by cancel", 400),
+    ("behind an evicted one that ran", 400),
+    ("behind an evicted one that never ran", 100),
+    ("behind a cancelled one", 100),
 ];
 
 fn take_down(book: &mut Book, step: &Step<'_>) -> Result<(), String> {
@@ -290,6 +342,29 @@ fn histories_in_order_are_taken_down() {
     );
 }
 
+/// Item 7: what is evicted or cancelled has left, whatever its state was, and who
+/// waited for it starts by a call of its own.
+#[test]
+fn histories_with_leavings_are_in_order() {
+    judge(
+        "open 2 2 1                 | ok            |
+         begin 1 writes 7           | free:1.1      | free:1.1
+         begin 2 awaited 1 writes 7 | blocked:2.1@7 | free:1.1 blocked:2.1
+         begin 3 reads 7            | blocked:3.1@7 | free:1.1 blocked:2.1 blocked:3.1
+         cancel 1 1                 | refused:11    | free:1.1 blocked:2.1 blocked:3.1
+         evict 1 1                  | done          | blocked:2.1 blocked:3.1
+         scan 3                     | nothing       | blocked:2.1 blocked:3.1
+         cancel 2 1                 | done          | blocked:3.1
+         scan 3                     | free:3.1      | free:3.1
+         begin 1 writes 7           | blocked:1.2@7 | free:3.1 blocked:1.2
+         begin 2 writes 7           | blocked:2.2@7 | free:3.1 blocked:1.2 blocked:2.2
+         evict 1 2                  | done          | free:3.1 blocked:2.2
+         evict 1 2                  | refused:10    | free:3.1 blocked:2.2
+         finish 3 1                 | done          | blocked:2.2
+         pick                       | free:2.2      | free:2.2",
+    );
+}
+
 /// Lines without a `|` are titles.
 const BROKEN: &str = "
     A scan compares with running entries only. In the end nothing is ahead of 2.1,
@@ -342,6 +417,34 @@ const BROKEN: &str = "
     begin 1 writes 7 | free:1.1      | free:1.1
     begin 2 writes 7 | blocked:2.1@7 | free:1.1 blocked:2.1
     finish 1 1       | done          | free:2.1 | 2.1 starts as 1.1 leaves
+
+    An evict promotes.
+    open 1 1         | ok            |
+    begin 1 writes 7 | free:1.1      | free:1.1
+    begin 2 writes 7 | blocked:2.1@7 | free:1.1 blocked:2.1
+    evict 1 1        | done          | free:2.1 | 2.1 starts as 1.1 leaves
+
+    A cancel takes out the front, and a pick the one behind it.
+    open 1 1         | ok            |
+    begin 1 writes 7 | free:1.1      | free:1.1
+    begin 2 writes 7 | blocked:2.1@7 | free:1.1 blocked:2.1
+    cancel 2 1       | done          | blocked:2.1 | 1.1 leaves by another's call
+    pick             | free:2.1      |             | 2.1 is free in the answer alone
+
+    An evict leaves the entry where it is, for the next to pass.
+    open 1 1         | ok            |
+    begin 1 writes 7 | free:1.1      | free:1.1
+    begin 2 writes 7 | blocked:2.1@7 | free:1.1 blocked:2.1
+    evict 1 1        | done          | free:1.1 blocked:2.1
+    scan 2           | free:2.1      | free:1.1 free:2.1 | 2.1 is free before 1.1 leaves
+
+    A cancelled one comes back in its turn.
+    open 1 1 1       | ok            |
+    begin 1 writes 7 | free:1.1      | free:1.1
+    begin 2 writes 7 | blocked:2.1@7 | free:1.1 blocked:2.1
+    cancel 2 1       | done          | free:1.1
+    begin 3 writes 7 | blocked:3.1@7 | free:1.1 blocked:3.1
+    finish 1 1       | done          | blocked:2.1 blocked:3.1 | 2.1 comes back
 
     A shop is told what is not so.
     open 1 1         | ok       |

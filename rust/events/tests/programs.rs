@@ -53,15 +53,15 @@ fn eventgen_writes_the_file_of_a_seed() {
 #[test]
 fn eventgen_names_its_kinds() {
     let names = "mixed\ndeep\nscarce\nremote\nrefusals\nworst\ndamaged\nboundary\nearly\noverlap\n\
-                 clash\n";
+                 clash\nstuck\n";
     assert_eq!(succeeded(eventgen(&["--kinds"])), names.as_bytes());
 }
 
 #[test]
 fn eventgen_names_the_kinds_when_it_is_called_wrongly() {
     let kinds = "KIND is one of: mixed, deep, scarce, remote, refusals, worst, damaged, boundary, \
-                 early, overlap, clash; to measure with: long-scans, long-queues, long-picks, \
-                 long-hot\n";
+                 early, overlap, clash, stuck; to measure with: long-scans, long-queues, \
+                 long-picks, long-hot\n";
     let wrong: [(&[&str], &str); 7] = [
         (&[], "usage: eventgen SEED KIND, or eventgen --kinds\n"),
         (&["1"], "usage: eventgen SEED KIND, or eventgen --kinds\n"),
@@ -87,9 +87,9 @@ fn eventgen_names_the_kinds_when_it_is_called_wrongly() {
 #[test]
 fn eventtext_goes_there_and_back() {
     let text = b"open 2 2\ngrant 1 40\nbegin 1 awaited 1 reads 3 5 writes 10\n\
-                 begin 1 reads 10 3 10 writes 3 10\nraw ff\n";
+                 begin 1 reads 10 3 10 writes 3 10\ncancel 1 2\nevict 1 1\nraw ff\n";
     let bytes = succeeded(eventtext(&[], text));
-    assert_eq!(bytes.len(), 19 + 8 + 9 + 11 + 1);
+    assert_eq!(bytes.len(), 19 + 8 + 9 + 11 + 6 + 6 + 1);
     assert_eq!(succeeded(eventtext(&["--back"], &bytes)), text);
     assert_eq!(succeeded(eventtext(&["--back"], b"")), b"");
     assert_eq!(succeeded(eventtext(&[], b"")), b"");
@@ -119,11 +119,18 @@ fn eventtext_takes_either() {
     }
     assert_eq!(either(b"# nothing\n"), b"");
     assert_eq!(either(b"\xEF\xBB\xBF"), b"");
-    let files: [&[u8]; 8] = [
+    // A tab begins text, but for the head of an Evict.
+    assert_eq!(either(b"\tpick"), [7, 0, 0]);
+    assert_eq!(either(b"\t"), b"");
+    let files: [&[u8]; 12] = [
         b"",
         &open,
         b"\x01",
         b"\x08",
+        b"\x09\0",
+        b"\x09\0\x03\x01\0\x01",
+        b"\x0B",
+        b"\x0B\0\x03\x01\0\x01",
         b"\0",
         b"\x7F",
         b"\xFFpick\n",

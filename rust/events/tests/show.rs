@@ -118,6 +118,38 @@ fn what_each_blocked_request_waits_for() {
     assert_eq!(after("11 finish done 0 32\n"), [&first[..], &second]);
 }
 
+/// What is taken out is gone from the queue, the counters and the places; who
+/// waited behind it is Blocked until it asks.
+#[test]
+fn what_is_taken_out() {
+    let text = "open 1 1 1\ngrant 1 10\ngrant 2 10\ngrant 3 10\n\
+                begin 1 writes 7\nbegin 2 reads 7\nbegin 3 writes 7\n\
+                cancel 3 1\nevict 1 1\nevict 1 1\nscan 2\n";
+    let shown = view(text);
+    let last = &shown[shown.find("8 cancel").expect("the cancel's line")..];
+    let wanted = "\
+8 cancel done 1 5
+    front 1.1 free            writes 7
+          2.1 blocked reads 7          waits for record 7
+    Cx 7=1
+    Cs 7=1
+    fuel 1=6 2=6 3=5, places 1=1/1 2=1/1 3=0/1
+9 evict done 0 6
+    front 2.1 blocked reads 7 nothing ahead conflicts
+    Cs 7=1
+    fuel 1=6 2=6 3=5, places 1=0/1 2=1/1 3=0/1
+10 evict refused:10 0 6
+    front 2.1 blocked reads 7 nothing ahead conflicts
+    Cs 7=1
+    fuel 1=6 2=6 3=5, places 1=0/1 2=1/1 3=0/1
+11 scan free:2.1 3 3
+    front 2.1 free reads 7
+    Cs 7=1
+    fuel 1=6 2=3 3=5, places 1=0/1 2=1/1 3=0/1
+";
+    assert_eq!(last, wanted);
+}
+
 #[test]
 fn awaited_answers_and_long_names() {
     let text = "open 0 0 0 0 0 0 0 0 0 3 1\ngrant 10 40\ngrant 4 9\n\

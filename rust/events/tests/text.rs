@@ -35,6 +35,8 @@ fn each_word() {
     assert_eq!(bytes("scan 255"), [6, 0, 1, 255]);
     assert_eq!(bytes("pick"), [7, 0, 0]);
     assert_eq!(bytes("deliver 0 0"), [8, 0, 3, 0, 0, 0]);
+    assert_eq!(bytes("evict 16 258"), [9, 0, 3, 16, 1, 2]);
+    assert_eq!(bytes("cancel 255 65535"), [11, 0, 3, 255, 255, 255]);
     assert_eq!(bytes("raw 05 00 fF"), [5, 0, 255]);
 }
 
@@ -89,6 +91,8 @@ recheck 2 1
 scan 2
 pick
 deliver 1 1
+evict 1 1
+cancel 2 258
 open
 ";
     assert_eq!(to_text(&bytes(text)), text);
@@ -100,6 +104,10 @@ fn back_writes_the_rest_raw() {
     assert_eq!(
         to_text(&[7, 0, 0, 9, 0, 0, 7, 0, 0]),
         "pick\nraw 09 00 00 07 00 00\n"
+    );
+    assert_eq!(
+        to_text(&[11, 0, 3, 1, 0, 2, 10, 0, 3, 1, 0, 1]),
+        "cancel 1 2\nraw 0a 00 03 01 00 01\n"
     );
     assert_eq!(to_text(&[7, 0, 0, 6, 0, 1]), "pick\nraw 06 00 01\n");
     assert_eq!(to_text(&[7, 0, 1, 0]), "raw 07 00 01 00\n");
@@ -135,20 +143,22 @@ fn any_bytes_go_there_and_back() {
         // Small bytes make many a record by chance.
         let mut file = random.bytes(length);
         assert_round_trip("any bytes", &file);
-        file.iter_mut().for_each(|byte| *byte %= 9);
+        file.iter_mut().for_each(|byte| *byte %= 12);
         assert_round_trip("small bytes", &file);
     }
 }
 
 #[test]
 fn wrong_words() {
-    let known = "known: open, grant, begin, finish, recheck, scan, pick, deliver, raw";
+    let known = "known: open, grant, begin, finish, recheck, scan, pick, deliver, evict, cancel, \
+                 raw";
     let unknown = |word: &str| format!("line 1: unknown word \"{}\" ({})", word, known);
     assert_eq!(wrong(b"opne 2 2"), unknown("opne"));
     assert_eq!(wrong(b"Open 2 2"), unknown("Open"));
     assert_eq!(wrong(b"5"), unknown("5"));
     assert_eq!(wrong(b"pick 1"), "line 1: \"1\" is one word too many");
     assert_eq!(wrong(b"scan 1 2"), "line 1: \"2\" is one word too many");
+    assert_eq!(wrong(b"evict 1 2 3"), "line 1: \"3\" is one word too many");
 }
 
 /// Bytes read as text, and words without end, are told in few and readable
@@ -175,7 +185,7 @@ fn wrong_numbers() {
     let amount = "line 1: amount: 4294967296 is not in 0 to 4294967295";
     assert_eq!(wrong(b"grant 1 4294967296"), amount);
     let serial = "line 1: serial: 65536 is not in 0 to 65535";
-    for word in ["finish", "recheck", "deliver"] {
+    for word in ["finish", "recheck", "deliver", "evict", "cancel"] {
         assert_eq!(wrong(format!("{} 1 65536", word).as_bytes()), serial);
     }
     let huge = "99999999999999999999";
@@ -189,6 +199,8 @@ fn missing_arguments() {
     assert_eq!(wrong(b"grant 1"), "line 1: amount is missing");
     assert_eq!(wrong(b"begin"), "line 1: tenant is missing");
     assert_eq!(wrong(b"finish 1"), "line 1: serial is missing");
+    assert_eq!(wrong(b"evict"), "line 1: tenant is missing");
+    assert_eq!(wrong(b"cancel 1"), "line 1: serial is missing");
     assert_eq!(wrong(b"scan # 1"), "line 1: tenant is missing");
     assert_eq!(wrong(b"raw"), "line 1: a byte is missing");
 }

@@ -56,7 +56,9 @@ impl Step<'_> {
             (Answer::Entry { tenant, serial, .. }, _)
             | (_, Event::Finish { tenant, serial })
             | (_, Event::Recheck { tenant, serial })
-            | (_, Event::Deliver { tenant, serial }) => (tenant, serial),
+            | (_, Event::Deliver { tenant, serial })
+            | (_, Event::Evict { tenant, serial })
+            | (_, Event::Cancel { tenant, serial }) => (tenant, serial),
             _ => return None,
         };
         let named = |entry: &&Entry| (entry.tenant, entry.serial) == (tenant, serial);
