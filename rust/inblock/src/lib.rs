@@ -5,7 +5,7 @@
 //!
 //! "Document 01" is the page of scope and precise rules; the block is that of
 //! Item 1 of the change requests, with Item 2's rule of promotion, Item 4's
-//! reduced lists and Item 5's report.
+//! reduced lists, Item 5's report and Item 7's two calls.
 
 mod check;
 mod layout;
@@ -268,6 +268,35 @@ pub fn deliver(block: &mut [u8], tenant: u8, serial: u16) -> Reply {
             entry[STATE] = FREE;
         }
         Reply::named(entry, 0)
+    })
+}
+
+pub fn evict(block: &mut [u8], tenant: u8, serial: u16) -> Reply {
+    with(block, |block| {
+        if Meter::of(block, tenant).is_none() {
+            return Reply::refused(1, 0);
+        }
+        match find(block, tenant, serial) {
+            Some(at) => {
+                leave(block, at);
+                Reply::plain(DONE, 0)
+            }
+            None => Reply::refused(10, 0),
+        }
+    })
+}
+
+pub fn cancel(block: &mut [u8], tenant: u8, serial: u16) -> Reply {
+    with(block, |block| {
+        charged(block, tenant, |block, meter| {
+            let at = find(block, tenant, serial).ok_or(10)?;
+            if entry(block, at)[STATE] != BLOCKED {
+                return Err(11);
+            }
+            meter.fuel -= 1;
+            leave(block, at);
+            Ok(Reply::plain(DONE, 1))
+        })
     })
 }
 

@@ -111,7 +111,7 @@ fn call_both(random: &mut Random, block: &mut Block, table: &mut Table) -> (Repl
         Some(entry) if random.chance(70) => entry.tenant,
         _ => tenant,
     };
-    match random.below(12) {
+    match random.below(14) {
         0..=4 => {
             let awaited = if random.chance(70) {
                 0
@@ -140,6 +140,8 @@ fn call_both(random: &mut Random, block: &mut Block, table: &mut Table) -> (Repl
             deliver(block, tenant, serial),
             table.deliver(tenant, serial),
         ),
+        11 => (evict(block, tenant, serial), table.evict(tenant, serial)),
+        12 => (cancel(block, tenant, serial), table.cancel(tenant, serial)),
         _ => {
             let amount = random.between(0, 300) as u32;
             (grant(block, tenant, amount), table.grant(tenant, amount))
@@ -222,6 +224,88 @@ fn held_goes_by_the_last_holder() {
     assert_eq!(held(&block[1..]), NOT_SOUND);
     open(&mut block, &[4; 16]);
     assert_eq!(held(&block), counts(0, 0, 0));
+}
+
+/// Item 7, on each entry of `queued`: 1.1, 2.1 and 2.2 run, and 1.2 is Blocked.
+/// Those behind move up, and the counters are those of what is left.
+#[test]
+fn entries_are_taken_out() {
+    let name = |block: &Block, at: usize| block[ENTRIES + at * ENTRY_BYTES..][..3].to_vec();
+    let counters =
+        |block: &Block| [CX + 3, CX + 4, CX + 9, CS + 1, CS + 2, CS + 3].map(|at| block[at]);
+    assert_eq!(counters(&queued()), [1, 1, 1, 2, 1, 1]);
+    type Case = ((u8, u16), bool, [u8; 6]);
+    let cases: [Case; 4] = [
+        ((1, 1), false, [0, 1, 1, 1, 0, 1]),
+        ((1, 2), true, [1, 0, 1, 2, 1, 0]),
+        ((2, 1), false, [1, 1, 1, 1, 1, 1]),
+        ((2, 2), false, [1, 1, 0, 2, 1, 1]),
+    ];
+    let names = [[1, 0, 1], [1, 0, 2], [2, 0, 1], [2, 0, 2]];
+    for (at, ((tenant, serial), blocked, left)) in cases.into_iter().enumerate() {
+        let fuel = METERS + usize::from(tenant - 1) * METER_BYTES + 3;
+        for evicts in [true, false] {
+            let mut block = queued();
+            let mut expected = queued();
+            if !evicts {
+                expected[fuel] -= 1;
+            }
+            if !evicts && !blocked {
+                let reply = cancel(&mut block, tenant, serial);
+                assert_eq!(reply, Reply::refused(11, 1));
+                assert_eq!(block, expected);
+                continue;
+            }
+            if evicts {
+                let reply = evict(&mut block, tenant, serial);
+                assert_eq!(reply, Reply::plain(DONE, 0));
+            } else {
+                let reply = cancel(&mut block, tenant, serial);
+                assert_eq!(reply, Reply::plain(DONE, 1));
+            }
+            assert_eq!(block[..CX], expected[..CX]);
+            assert_eq!(counters(&block), left);
+            assert_eq!(block[COUNT], 3);
+            let rest: Vec<_> = names.iter().filter(|other| **other != names[at]).collect();
+            for (place, other) in rest.into_iter().enumerate() {
+                assert_eq!(name(&block, place), other);
+            }
+            assert!(sound(&block));
+            // The name is gone, and only a tenant's call pays for that.
+            let before = block;
+            assert_eq!(evict(&mut block, tenant, serial), Reply::refused(10, 0));
+            assert_eq!(block, before);
+            assert_eq!(cancel(&mut block, tenant, serial), Reply::refused(10, 1));
+        }
+    }
+}
+
+/// 1 comes first, a dry tank is a cancel's alone, and its last unit is enough.
+#[test]
+fn what_is_taken_out_by_whom() {
+    let mut block = queued();
+    let before = block;
+    for tenant in [0, 17, 255] {
+        assert_eq!(evict(&mut block, tenant, 1), Reply::refused(1, 0));
+        assert_eq!(cancel(&mut block, tenant, 1), Reply::refused(1, 0));
+    }
+    assert_eq!(cancel(&mut block, 3, 1), Reply::refused(2, 0));
+    assert_eq!(evict(&mut block, 3, 1), Reply::refused(10, 0));
+    assert_eq!(block, before);
+    for fuel in [0, 1] {
+        let mut block = queued();
+        block[METERS + 3] = fuel;
+        let reply = match fuel {
+            0 => Reply::refused(2, 0),
+            _ => Reply::plain(DONE, 1),
+        };
+        assert_eq!(cancel(&mut block, 1, 2), reply);
+        assert_eq!(block[METERS + 3], 0);
+        assert_eq!(evict(&mut block, 1, 1), Reply::plain(DONE, 0));
+        assert_eq!(block[METERS + 3], 0);
+    }
+    assert_eq!(evict(&mut block[1..], 1, 1), Reply::refused(15, 0));
+    assert_eq!(cancel(&mut block[1..], 17, 1), Reply::refused(15, 0));
 }
 
 /// A Begin of tenant 2 behind `queued`, and the record that it is told of.
