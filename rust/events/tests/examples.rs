@@ -6,7 +6,7 @@ use second::listing;
 use std::fs;
 use std::path::{Path, PathBuf};
 
-const NAMES: [&str; 10] = [
+const NAMES: [&str; 11] = [
     "twelve-lines",
     "sale",
     "dry",
@@ -17,6 +17,7 @@ const NAMES: [&str; 10] = [
     "stock",
     "which",
     "order",
+    "hung",
 ];
 
 fn folder() -> PathBuf {
@@ -49,7 +50,7 @@ fn calls(text: &str) -> Vec<(&str, &str)> {
 }
 
 #[test]
-fn the_ten_are_there() {
+fn the_eleven_are_there() {
     let found: Vec<String> = examples().into_iter().map(|(name, _)| name).collect();
     for name in NAMES {
         assert!(found.iter().any(|known| known == name), "{}", name);
