@@ -1,4 +1,4 @@
-// Makes the eight calls and held directly, each on the state that the one before gave back, and prints a line for each. It
+// Makes the ten calls and held directly, each on the state that the one before gave back, and prints a line for each. It
 // reaches what no event file can: refusal 8, shares that are not 16, and held.
 ghost use Prim.Native.Nat.{_≤_};
 ghost use Rattle.manager.specs.State.{Sound};
@@ -101,6 +101,22 @@ fn deliver(number: u32, s: State, who: u8, serial: u16) -> State
 {
     let next = manager::deliver::deliver(s, who, serial);
     told(number, Kind::Deliver, who, next)
+}
+
+fn evict(number: u32, s: State, who: u8, serial: u16) -> State
+    requires { ⌜ Sound s ⌝ }
+    ensures { λ r. ⌜ Sound r ⌝ }
+{
+    let next = manager::evict::evict(s, who, serial);
+    told(number, Kind::Evict, who, next)
+}
+
+fn cancel(number: u32, s: State, who: u8, serial: u16) -> State
+    requires { ⌜ Sound s ⌝ }
+    ensures { λ r. ⌜ Sound r ⌝ }
+{
+    let next = manager::cancel::cancel(s, who, serial);
+    told(number, Kind::Cancel, who, next)
 }
 
 // Prints how many records are held: written, read, and either.
@@ -404,6 +420,59 @@ fn borders() -> State
     finish(131, s, 2, 1)
 }
 
+// A request that hung with its locks, and four behind it. What is not there, is no tenant's, is not Blocked or has no fuel is
+// refused; a blocked one is cancelled, and who waited for it alone runs.
+fn stuck() -> State
+    ensures { λ r. ⌜ Sound r ⌝ }
+{
+    let s = open(132, &[2, 3, 1, 1, 0, 0, 0, 0, 0, 0, 0, 0, 0, 0, 0, 0]);
+    let s = grant(133, s, 1, 30);
+    let s = grant(134, s, 2, 60);
+    let s = grant(135, s, 3, 30);
+    let s = begin(136, s, 1, 0, &[30], &[10, 255]);
+    let s = begin(137, s, 2, 0, &[], &[10, 20]);
+    let s = begin(138, s, 3, 1, &[20], &[]);
+    let s = begin(139, s, 1, 2, &[40], &[41]);
+    let s = begin(140, s, 2, 0, &[255], &[]);
+    held(s);
+    let s = cancel(141, s, 0, 1);
+    let s = cancel(142, s, 4, 1);
+    let s = cancel(143, s, 2, 9);
+    let s = cancel(144, s, 1, 1);
+    let s = cancel(145, s, 1, 2);
+    let s = evict(146, s, 17, 1);
+    let s = evict(147, s, 3, 2);
+    let s = scan(148, s, 3);
+    let s = cancel(149, s, 2, 1);
+    held(s);
+    scan(150, s, 3)
+}
+
+// The host takes out the front, one in the middle and the last, in each state; a name that has left is gone, its place is free
+// again, and no fuel comes back.
+fn evictions(s: State) -> State
+    requires { ⌜ Sound s ⌝ }
+    ensures { λ r. ⌜ Sound r ⌝ }
+{
+    let s = evict(151, s, 1, 1);
+    held(s);
+    let s = evict(152, s, 1, 1);
+    let s = finish(153, s, 1, 1);
+    verdicts(s);
+    let s = scan(154, s, 2);
+    let s = begin(155, s, 2, 0, &[], &[255]);
+    let s = evict(156, s, 1, 2);
+    let s = evict(157, s, 2, 3);
+    held(s);
+    let s = begin(158, s, 1, 0, &[], &[41]);
+    let s = evict(159, s, 3, 1);
+    let s = deliver(160, s, 3, 1);
+    let s = begin(161, s, 3, 0, &[], &[20]);
+    let s = evict(162, s, 2, 2);
+    let s = evict(163, s, 1, 3);
+    finish(164, s, 3, 2)
+}
+
 fn main() {
     put(listing::header());
     let s = calls();
@@ -418,5 +487,8 @@ fn main() {
     let s = afterwards(s);
     sales(s);
     let s = borders();
+    held(s);
+    let s = stuck();
+    let s = evictions(s);
     held(s);
 }

@@ -74,6 +74,14 @@ impl Sheet {
         self.call(Event::Deliver { tenant, serial });
     }
 
+    fn evict(&mut self, tenant: u8, serial: u16) {
+        self.call(Event::Evict { tenant, serial });
+    }
+
+    fn cancel(&mut self, tenant: u8, serial: u16) {
+        self.call(Event::Cancel { tenant, serial });
+    }
+
     /// How many records are held: written, read, and either.
     fn held(&mut self) {
         let held = self.table.held();
@@ -294,6 +302,53 @@ fn borders(sheet: &mut Sheet) {
     sheet.held();
 }
 
+/// A request that hung with its locks, and four behind it.
+fn stuck(sheet: &mut Sheet) {
+    sheet.open(&[2, 3, 1, 1, 0, 0, 0, 0, 0, 0, 0, 0, 0, 0, 0, 0]);
+    sheet.grant(1, 30);
+    sheet.grant(2, 60);
+    sheet.grant(3, 30);
+    sheet.begin(1, 0, &[30], &[10, 255]);
+    sheet.begin(2, 0, &[], &[10, 20]);
+    sheet.begin(3, 1, &[20], &[]);
+    sheet.begin(1, 2, &[40], &[41]);
+    sheet.begin(2, 0, &[255], &[]);
+    sheet.held();
+    sheet.cancel(0, 1);
+    sheet.cancel(4, 1);
+    sheet.cancel(2, 9);
+    sheet.cancel(1, 1);
+    sheet.cancel(1, 2);
+    sheet.evict(17, 1);
+    sheet.evict(3, 2);
+    sheet.scan(3);
+    sheet.cancel(2, 1);
+    sheet.held();
+    sheet.scan(3);
+}
+
+/// The front, one in the middle and the last are taken out, in each state.
+fn evictions(sheet: &mut Sheet) {
+    sheet.evict(1, 1);
+    sheet.held();
+    sheet.evict(1, 1);
+    sheet.finish(1, 1);
+    sheet.verdicts();
+    sheet.scan(2);
+    sheet.begin(2, 0, &[], &[255]);
+    sheet.evict(1, 2);
+    sheet.evict(2, 3);
+    sheet.held();
+    sheet.begin(1, 0, &[], &[41]);
+    sheet.evict(3, 1);
+    sheet.deliver(3, 1);
+    sheet.begin(3, 0, &[], &[20]);
+    sheet.evict(2, 2);
+    sheet.evict(1, 3);
+    sheet.finish(3, 2);
+    sheet.held();
+}
+
 fn stored() -> String {
     let path = concat!(env!("CARGO_MANIFEST_DIR"), "/../../crates/direct/stdout");
     fs::read_to_string(path).expect("the stored listing can be read")
@@ -314,6 +369,8 @@ fn the_proved_program_lists_the_same() {
     afterwards(&mut sheet);
     sales(&mut sheet);
     borders(&mut sheet);
+    stuck(&mut sheet);
+    evictions(&mut sheet);
     assert_eq!(sheet.text, stored());
 }
 
@@ -323,7 +380,7 @@ fn the_proved_program_lists_the_same() {
 fn every_call_and_refusal_is_met() {
     let listed = stored();
     for call in [
-        "open", "grant", "begin", "finish", "recheck", "scan", "pick", "deliver",
+        "open", "grant", "begin", "finish", "recheck", "scan", "pick", "deliver", "evict", "cancel",
     ] {
         assert!(listed.contains(&format!(" {} ", call)));
     }
