@@ -51,7 +51,7 @@ typedef struct damsonpouch_counts {
 /* The kinds of a reply. */
 enum {
     DAMSONPOUCH_OK = 0,      /* of Open and Grant */
-    DAMSONPOUCH_DONE = 1,    /* of Finish: the entry has left */
+    DAMSONPOUCH_DONE = 1,    /* of Finish, Evict and Cancel: the entry has left */
     DAMSONPOUCH_STILL = 2,   /* of Recheck: the entry stays Blocked */
     DAMSONPOUCH_NOTHING = 3, /* of Scan and Pick: no entry was promoted */
     DAMSONPOUCH_REFUSED = 4, /* `number` says why */
@@ -69,7 +69,7 @@ enum {
 /* The refusals. But for 14, a refusal writes nothing to the block but the fuel that it burnt. */
 enum {
     DAMSONPOUCH_NO_SUCH_TENANT = 1,   /* the tenant number is not 1 to 16; burns 0 */
-    DAMSONPOUCH_DRY = 2,              /* the tenant's fuel is 0; burns 0. Not given by Finish of a Free entry */
+    DAMSONPOUCH_DRY = 2,              /* a tenant's call, and its fuel is 0; burns 0. Not given by Finish of a Free entry */
     DAMSONPOUCH_TOO_MANY_RECORDS = 3, /* more than 8 reads or more than 8 writes, as they are given; burns 1 */
     DAMSONPOUCH_NOT_RISING = 4,       /* the writes do not strictly rise, or the reads do not, without those that are written
                                          too; burns 1 */
@@ -78,8 +78,8 @@ enum {
     DAMSONPOUCH_SHARE_HELD = 7,       /* the tenant already holds as many places as its share; burns 1 */
     DAMSONPOUCH_SERIALS_GIVEN = 8,    /* the tenant has been given all 65,535 serials; burns 1 */
     DAMSONPOUCH_FUEL_BELOW_PRICE = 9, /* the fuel is below the price; burns 1. A scan cut short: burns what it had burnt */
-    DAMSONPOUCH_NO_SUCH_ENTRY = 10,   /* the tenant has no such entry in the queue; burns 1, of Deliver 0 */
-    DAMSONPOUCH_WRONG_STATE = 11,     /* Finish of an entry not Free, Recheck of one not Blocked; burns 1 */
+    DAMSONPOUCH_NO_SUCH_ENTRY = 10,   /* the tenant has no such entry in the queue; burns 1, of Deliver and Evict 0 */
+    DAMSONPOUCH_WRONG_STATE = 11,     /* Finish of an entry not Free, Recheck or Cancel of one not Blocked; burns 1 */
     DAMSONPOUCH_NOTHING_DUE = 12,     /* Deliver with no answer due; burns 0 */
     DAMSONPOUCH_TOO_MUCH_FUEL = 13,   /* with this Grant the fuel would pass 1,000,000,000; burns 0 */
     DAMSONPOUCH_BAD_SHARES = 14,      /* Open without exactly 16 shares, or their sum is above 64; burns 0, and the block then
@@ -121,6 +121,16 @@ damsonpouch_reply damsonpouch_pick(uint8_t *block, size_t length);
 /* A host call: one remote answer of an entry has come. A Waiting entry with none left due becomes Free; a Blocked one stays
  * Blocked until it is promoted. Refusals: 15, 1, 10, 12. */
 damsonpouch_reply damsonpouch_deliver(uint8_t *block, size_t length, uint8_t tenant, uint16_t serial);
+
+/* A host call: takes an entry out, in whatever state it is, as one whose plugin hung with its lock held. The host has undone the
+ * entry's writes before: no call undoes any. The entry leaves as by a Finish: its counters fall, its place is free, the others keep
+ * their order and their states, and nobody is promoted. No fuel is given back, and the serial is not given again. Burns 0.
+ * Refusals: 15, 1, 10. */
+damsonpouch_reply damsonpouch_evict(uint8_t *block, size_t length, uint8_t tenant, uint16_t serial);
+
+/* A tenant's call: takes out an entry of its own that is Blocked, which then leaves as by a Finish; burns 1. Of what its Begin
+ * burnt nothing is given back. Refusals: 15, 1, 2, 10, 11. */
+damsonpouch_reply damsonpouch_cancel(uint8_t *block, size_t length, uint8_t tenant, uint16_t serial);
 
 /* Whether the block is sound, as every call but Open asks. It is only read. A host need not ask, since the calls do. */
 bool damsonpouch_sound(const uint8_t *block, size_t length);

@@ -80,5 +80,7 @@ fn make(locks: &mut Locks<'_>, call: Event<'_>) -> Outcome {
         Event::Scan { tenant } => locks.scan(tenant),
         Event::Pick => locks.pick(),
         Event::Deliver { tenant, serial } => locks.deliver(tenant, serial),
+        Event::Evict { tenant, serial } => locks.evict(tenant, serial),
+        Event::Cancel { tenant, serial } => locks.cancel(tenant, serial),
     }
 }

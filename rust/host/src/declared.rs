@@ -50,6 +50,18 @@ extern "C" {
         tenant: u8,
         serial: u16,
     ) -> Reply;
+    pub(crate) fn damsonpouch_evict(
+        block: *mut u8,
+        length: usize,
+        tenant: u8,
+        serial: u16,
+    ) -> Reply;
+    pub(crate) fn damsonpouch_cancel(
+        block: *mut u8,
+        length: usize,
+        tenant: u8,
+        serial: u16,
+    ) -> Reply;
     pub(crate) fn damsonpouch_sound(block: *const u8, length: usize) -> bool;
     pub(crate) fn damsonpouch_held(block: *const u8, length: usize) -> Counts;
 }

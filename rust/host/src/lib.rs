@@ -3,7 +3,7 @@
 //!
 //! A request asks for all its locks at once and is queued; the front of the
 //! queue may always run. Work is metered in fuel and paid by the tenant that
-//! made the call. The eight calls are methods of [`Locks`]; each gives an
+//! made the call. The ten calls are methods of [`Locks`]; each gives an
 //! [`Outcome`]: an [`Answer`] or a [`Refusal`], and the units burnt. A Begin that
 //! is Blocked tells the record that held it up; [`Locks::held`] counts the
 //! records held.

@@ -109,6 +109,16 @@ pub(crate) fn deliver(block: &mut [u8], tenant: u8, serial: u16) -> Reply {
     unsafe { damsonpouch_deliver(block.as_mut_ptr(), block.len(), tenant, serial) }
 }
 
+pub(crate) fn evict(block: &mut [u8], tenant: u8, serial: u16) -> Reply {
+    // SAFETY: pointer and length come from one exclusive slice.
+    unsafe { damsonpouch_evict(block.as_mut_ptr(), block.len(), tenant, serial) }
+}
+
+pub(crate) fn cancel(block: &mut [u8], tenant: u8, serial: u16) -> Reply {
+    // SAFETY: pointer and length come from one exclusive slice.
+    unsafe { damsonpouch_cancel(block.as_mut_ptr(), block.len(), tenant, serial) }
+}
+
 pub(crate) fn sound(block: &[u8]) -> bool {
     // SAFETY: pointer and length come from one slice, which is only read. The
     // function gives 0 or 1.

@@ -32,7 +32,7 @@ pub fn held(block: &[u8]) -> Result<Held, Refusal> {
     Held::of(linked::held(block))
 }
 
-/// The lock manager over a block that the host lends: eight calls, a check, and a
+/// The lock manager over a block that the host lends: ten calls, a check, and a
 /// count of the records held.
 ///
 /// The block is the whole state. A call reads it, checks that it is
@@ -316,5 +316,65 @@ impl<'a> Locks<'a> {
     /// ```
     pub fn deliver(&mut self, tenant: u8, serial: u16) -> Outcome {
         linked::deliver(self.block, tenant, serial).into()
+    }
+
+    /// A host call: takes an entry out, in whatever state it is, as one whose
+    /// plugin hung with its lock held. The host has undone the entry's writes
+    /// before: no call undoes any.
+    ///
+    /// The entry leaves as by a [`finish`](Locks::finish): its counters fall,
+    /// its place is free, the others keep their order and their states. Nobody
+    /// is promoted by it: those that waited for this entry find out by a
+    /// [`recheck`](Locks::recheck), a [`scan`](Locks::scan) or a
+    /// [`pick`](Locks::pick). It burns 0 and gives no fuel back, neither what
+    /// the Begin burnt nor its part for the release, and the serial is not given
+    /// again.
+    ///
+    /// Refusals, in this order: 15, 1, 10.
+    ///
+    /// ```
+    /// # let mut block = [0; damsonpouch::BLOCK_LENGTH];
+    /// # let mut locks = damsonpouch::Locks::over(&mut block);
+    /// # let _ = locks.open(&[1; 16]);
+    /// # let _ = locks.grant(1, 40);
+    /// # let _ = locks.grant(2, 40);
+    /// // the plugin of tenant 1 hangs; its writes are undone
+    /// assert_eq!(locks.begin(1, 0, &[], &[10]).to_string(), "free:1.1 4");
+    /// assert_eq!(locks.begin(2, 0, &[10], &[]).to_string(), "blocked:2.1@10 4");
+    /// assert_eq!(locks.evict(1, 1).to_string(), "done 0");
+    /// assert_eq!(locks.pick().to_string(), "free:2.1 0");
+    /// // it wakes up, and is not in the queue any more
+    /// assert_eq!(locks.finish(1, 1).to_string(), "refused:10 1");
+    /// assert_eq!(locks.evict(1, 1).to_string(), "refused:10 0");
+    /// assert_eq!(locks.begin(1, 0, &[], &[20]).to_string(), "free:1.2 4");
+    /// ```
+    pub fn evict(&mut self, tenant: u8, serial: u16) -> Outcome {
+        linked::evict(self.block, tenant, serial).into()
+    }
+
+    /// A tenant's call: takes out an entry of its own that is Blocked, which
+    /// then leaves as by a [`finish`](Locks::finish). It burns 1, and of what
+    /// the Begin burnt nothing is given back.
+    ///
+    /// An entry that is Free is let go by a Finish, and one that is Waiting
+    /// stays until its answers have come, or until the host
+    /// [evicts](Locks::evict) it.
+    ///
+    /// Refusals, in this order: 15, 1, 2, 10, 11.
+    ///
+    /// ```
+    /// # let mut block = [0; damsonpouch::BLOCK_LENGTH];
+    /// # let mut locks = damsonpouch::Locks::over(&mut block);
+    /// # let _ = locks.open(&[4; 16]);
+    /// # let _ = locks.grant(1, 10);
+    /// assert_eq!(locks.begin(1, 0, &[], &[10]).to_string(), "free:1.1 4");
+    /// assert_eq!(locks.begin(1, 0, &[10], &[]).to_string(), "blocked:1.2@10 4");
+    /// // of 10 units 2 are left: one goes for asking, one is the price
+    /// assert_eq!(locks.cancel(1, 1).to_string(), "refused:11 1");
+    /// assert_eq!(locks.cancel(1, 2).to_string(), "done 1");
+    /// assert_eq!(locks.cancel(1, 2).to_string(), "refused:2 0");
+    /// ```
+    pub fn cancel(&mut self, tenant: u8, serial: u16) -> Outcome {
+        linked::cancel(self.block, tenant, serial).into()
     }
 }

@@ -51,7 +51,7 @@ impl fmt::Display for Name {
 pub enum Answer {
     /// Of Open and Grant.
     Ok,
-    /// Of Finish: the entry has left.
+    /// Of Finish, Evict and Cancel: the entry has left.
     Done,
     /// Of Recheck: the entry stays Blocked.
     Still,

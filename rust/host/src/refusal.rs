@@ -25,8 +25,8 @@ use std::fmt;
 pub enum Refusal {
     /// 1: the tenant number is not 1 to 16. Burns 0.
     NoSuchTenant = 1,
-    /// 2, "dry": the tenant's fuel is 0. Burns 0. Not given by Finish of a Free
-    /// entry.
+    /// 2, "dry": a tenant's call, and its fuel is 0. Burns 0. Not given by Finish
+    /// of a Free entry.
     Dry = 2,
     /// 3: more than 8 reads or more than 8 writes, as they are given. Burns 1.
     TooManyRecords = 3,
@@ -43,10 +43,11 @@ pub enum Refusal {
     /// 9: the fuel is below the price (Begin and Recheck, burning 1), or a scan
     /// was cut short (burning what it had burnt).
     FuelBelowPrice = 9,
-    /// 10: the tenant has no such entry in the queue. Burns 1, of Deliver 0.
+    /// 10: the tenant has no such entry in the queue. Burns 1, of Deliver and
+    /// Evict 0.
     NoSuchEntry = 10,
-    /// 11: Finish of an entry that is not Free, or Recheck of one that is not
-    /// Blocked. Burns 1.
+    /// 11: Finish of an entry that is not Free, or Recheck or Cancel of one that
+    /// is not Blocked. Burns 1.
     WrongState = 11,
     /// 12: Deliver with no answer due. Burns 0.
     NothingDue = 12,
