@@ -24,7 +24,7 @@ fn sound(why: &str, picture: &Picture) {
 #[track_caller]
 fn unsound(why: &str, block: &[u8]) {
     assert!(!is_sound(block), "sound: {}", why);
-    let calls: [Call; 7] = [
+    let calls: [Call; 9] = [
         |locks| locks.grant(1, 1),
         |locks| locks.begin(1, 0, &[], &[200]),
         |locks| locks.finish(1, 1),
@@ -32,6 +32,8 @@ fn unsound(why: &str, block: &[u8]) {
         |locks| locks.scan(1),
         |locks| locks.pick(),
         |locks| locks.deliver(1, 2),
+        |locks| locks.evict(1, 1),
+        |locks| locks.cancel(2, 1),
     ];
     for call in calls {
         gives(block, call, "refused:15 0", block);

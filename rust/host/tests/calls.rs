@@ -3,8 +3,8 @@
 
 mod common;
 
-use common::{base, entry, gives, Call, Picture, BLOCKED, FREE, WAITING};
-use damsonpouch::{Answer, Locks, Name, Outcome, Refusal, State, BLOCK_LENGTH, TENANTS};
+use common::{base, entry, gives, Call, Entry, Picture, BLOCKED, FREE, WAITING};
+use damsonpouch::{is_sound, Answer, Locks, Name, Outcome, Refusal, State, BLOCK_LENGTH, TENANTS};
 
 #[test]
 fn open_makes_a_fresh_state_of_any_bytes() {
@@ -405,6 +405,215 @@ fn deliver_takes_an_answer() {
     );
 }
 
+/// 1.1, 2.1 and 1.2 in these states; each reads 5 and a record of its own, and
+/// writes one of its own. Both tenants hold all their places.
+fn three(states: [u8; 3]) -> Picture {
+    let mut picture = Picture::fresh(&[2, 1])
+        .fuel(1, 9)
+        .fuel(2, 7)
+        .serials(1, 2)
+        .serials(2, 1);
+    for (at, (tenant, serial)) in (0..).zip([(1, 1), (2, 1), (1, 2)]) {
+        let state = states[usize::from(at)];
+        let asked = entry(tenant, serial, state, &[5, 100 + at], &[30 + at]);
+        let due = u8::from(state != FREE);
+        picture = picture.with(asked.awaits(2, due));
+    }
+    picture
+}
+
+/// Every state at every place, beside all others.
+fn all_of_three() -> impl Iterator<Item = ([u8; 3], usize)> {
+    (0..27u8)
+        .map(|k| [k / 9, k / 3 % 3, k % 3])
+        .flat_map(|states| (0..3).map(move |at| (states, at)))
+}
+
+/// Item 7 of document 02: "evict" takes out "an entry in any state", at the front,
+/// in the middle and last. "Both release counters and place, refund no fuel".
+#[test]
+fn evict_takes_out_an_entry_in_any_state() {
+    for at in 0..3 {
+        let Entry { tenant, serial, .. } = base().queue[at];
+        let after = base().without(at).bytes();
+        let evict = |locks: &mut Locks<'_>| locks.evict(tenant, serial);
+        gives(&base().bytes(), evict, "done 0", &after);
+        assert!(is_sound(&after));
+    }
+    for (states, at) in all_of_three() {
+        let Entry { tenant, serial, .. } = three(states).queue[at];
+        // on a dry tank, too, and on one that holds no more
+        for fuel in [0, 1, 1_000_000_000] {
+            let before = three(states).fuel(1, fuel).fuel(2, fuel);
+            gives(
+                &before.bytes(),
+                |locks| locks.evict(tenant, serial),
+                "done 0",
+                &before.clone().without(at).bytes(),
+            );
+        }
+    }
+}
+
+/// "A tenant needs "cancel" for its own Blocked entry, burning 1": wherever it
+/// stands, and "11 for an entry not Blocked".
+#[test]
+fn cancel_takes_out_a_blocked_entry() {
+    let after = base().fuel(2, 29).without(2).bytes();
+    gives(
+        &base().bytes(),
+        |locks| locks.cancel(2, 1),
+        "done 1",
+        &after,
+    );
+    assert!(is_sound(&after));
+    for (states, at) in all_of_three() {
+        let Entry { tenant, serial, .. } = three(states).queue[at];
+        // to the last unit, and with fuel to spare
+        for fuel in [1, 9] {
+            let before = three(states).fuel(tenant.into(), fuel);
+            let charged = before.clone().fuel(tenant.into(), fuel - 1);
+            let (said, after) = match states[at] {
+                BLOCKED => ("done 1", charged.without(at)),
+                _ => ("refused:11 1", charged),
+            };
+            gives(
+                &before.bytes(),
+                |locks| locks.cancel(tenant, serial),
+                said,
+                &after.bytes(),
+            );
+        }
+    }
+    // none, some or all of its answers have come
+    for due in 0..=3 {
+        let mut before = base();
+        before.queue[2] = before.queue[2].clone().awaits(3, due);
+        gives(
+            &before.bytes(),
+            |locks| locks.cancel(2, 1),
+            "done 1",
+            &after,
+        );
+    }
+}
+
+/// The others close up, and the last place is zero again.
+#[test]
+fn a_full_queue_closes_up() {
+    let mut full = Picture::fresh(&[64]).fuel(1, 9).serials(1, 900);
+    full.queue = (0..64u8)
+        .map(|k| entry(1, 700 + u16::from(k), BLOCKED, &[k, 64], &[128 + k]))
+        .collect();
+    for at in 0..64 {
+        let serial = full.queue[at].serial;
+        let left = full.clone().without(at);
+        gives(
+            &full.bytes(),
+            |locks| locks.evict(1, serial),
+            "done 0",
+            &left.bytes(),
+        );
+        gives(
+            &full.bytes(),
+            |locks| locks.cancel(1, serial),
+            "done 1",
+            &left.fuel(1, 8).bytes(),
+        );
+    }
+}
+
+/// "Both release counters and place": who held all its places has one again, and
+/// the next serial. What the entry has cost is not given back.
+#[test]
+fn what_is_taken_out_leaves_its_place() {
+    let taken: [(Call, &str, u32); 2] = [
+        (|locks| locks.evict(2, 1), "done 0", 30),
+        (|locks| locks.cancel(2, 1), "done 1", 29),
+    ];
+    for (take_out, said, fuel) in taken {
+        let mut block = base().bytes();
+        let mut locks = Locks::over(&mut block);
+        assert_eq!(take_out(&mut locks).to_string(), said);
+        // 12 is let go, and 10 is still written by 1.1
+        let begun = locks.begin(2, 0, &[], &[12]);
+        assert_eq!(begun.to_string(), "free:2.2 4");
+        let full = locks.begin(2, 0, &[], &[]);
+        assert_eq!(full.to_string(), "refused:7 1");
+        let after = base()
+            .fuel(2, fuel - 5)
+            .serials(2, 2)
+            .without(2)
+            .with(entry(2, 2, FREE, &[], &[12]));
+        assert_eq!(locks.block(), after.bytes());
+    }
+}
+
+/// Nobody is promoted by it: whoever waited for the entry is still Blocked, and
+/// then promoted by any of the three calls that promote.
+#[test]
+fn an_eviction_promotes_nobody() {
+    let alone = base().without(1);
+    let after = alone.clone().without(0);
+    let calls: [(Call, &str, u32); 3] = [
+        (|locks| locks.recheck(2, 1), "free:2.1 4", 26),
+        (|locks| locks.scan(2), "free:2.1 5", 25),
+        (|locks| locks.pick(), "free:2.1 0", 30),
+    ];
+    for (call, said, left) in calls {
+        let mut block = alone.bytes();
+        let mut locks = Locks::over(&mut block);
+        assert_eq!(locks.evict(1, 1).to_string(), "done 0");
+        assert_eq!(locks.block(), after.bytes());
+        assert_eq!(call(&mut locks).to_string(), said);
+        let mut promoted = after.clone().fuel(2, left);
+        promoted.queue[0].state = FREE;
+        assert_eq!(locks.block(), promoted.bytes());
+    }
+}
+
+/// A plugin hung with its lock held. Tenant 1's is taken out by the host, running
+/// and on a dry tank; it wakes up, and its name is nobody's.
+#[test]
+fn a_plugin_that_hung() {
+    let mut block = Picture::fresh(&[2, 1, 1])
+        .fuel(1, 9)
+        .fuel(2, 20)
+        .fuel(3, 20)
+        .bytes();
+    let mut locks = Locks::over(&mut block);
+    let calls: [(Call, &str); 15] = [
+        (|locks| locks.begin(1, 0, &[], &[7]), "free:1.1 4"),
+        (|locks| locks.begin(2, 0, &[7], &[7, 8]), "blocked:2.1@7 6"),
+        (|locks| locks.begin(1, 0, &[8], &[]), "blocked:1.2@8 4"),
+        (|locks| locks.begin(3, 1, &[], &[9]), "waiting:3.1 4"),
+        (|locks| locks.cancel(1, 1), "refused:11 1"),
+        (|locks| locks.cancel(1, 2), "refused:2 0"),
+        (|locks| locks.grant(1, 1), "ok 0"),
+        (|locks| locks.cancel(1, 2), "done 1"),
+        (|locks| locks.evict(1, 1), "done 0"),
+        (|locks| locks.finish(1, 1), "refused:2 0"),
+        (|locks| locks.grant(1, 5), "ok 0"),
+        (|locks| locks.finish(1, 1), "refused:10 1"),
+        (|locks| locks.pick(), "free:2.1 0"),
+        (|locks| locks.evict(3, 1), "done 0"),
+        (|locks| locks.begin(1, 0, &[], &[9]), "free:1.3 4"),
+    ];
+    for (line, (call, said)) in calls.iter().enumerate() {
+        assert_eq!(call(&mut locks).to_string(), *said, "line {}", line + 1);
+        assert!(locks.is_sound(), "line {}", line + 1);
+    }
+    let after = Picture::fresh(&[2, 1, 1])
+        .fuel(2, 14)
+        .fuel(3, 16)
+        .serials(1, 3)
+        .serials(2, 1)
+        .serials(3, 1)
+        .with(entry(2, 1, FREE, &[], &[7, 8]))
+        .with(entry(1, 3, FREE, &[], &[9]));
+    assert_eq!(locks.block(), after.bytes());
+}
+
 #[test]
 fn the_documents_listing() {
     let mut block = vec![0; BLOCK_LENGTH];
@@ -467,6 +676,13 @@ fn answers_are_what_they_say() {
         serial: 2,
     };
     assert_eq!(delivered.name(), Some(name));
+    assert_eq!(locks.evict(1, 2), told(Ok(Answer::Done)));
+    assert_eq!(locks.evict(1, 2), told(Err(Refusal::NoSuchEntry)));
+    let cancelled = Outcome {
+        answer: Ok(Answer::Done),
+        burnt: 1,
+    };
+    assert_eq!(locks.cancel(2, 1), cancelled);
     assert_eq!(name.to_string(), "1.2");
     assert_eq!((Answer::Still.state(), Answer::Still.name()), (None, None));
     assert_eq!(Answer::Still.clash(), None);
@@ -500,12 +716,17 @@ fn threads_with_a_block_each() {
         let mut locks = Locks::over(&mut block);
         let mut told = vec![locks.open(&[4; TENANTS]), locks.grant(tenant, 1_000_000)];
         for turn in 1..=2_000 {
+            let last = 4 * turn;
             told.push(locks.begin(tenant, 0, &[tenant], &[100, 200]));
             told.push(locks.begin(tenant, 1, &[200], &[]));
-            told.push(locks.finish(tenant, 2 * turn - 1));
+            told.push(locks.begin(tenant, 0, &[], &[200]));
+            told.push(locks.begin(tenant, 1, &[tenant], &[]));
+            told.push(locks.cancel(tenant, last - 1));
+            told.push(locks.finish(tenant, last - 3));
             told.push(locks.scan(tenant));
-            told.push(locks.deliver(tenant, 2 * turn));
-            told.push(locks.finish(tenant, 2 * turn));
+            told.push(locks.deliver(tenant, last - 2));
+            told.push(locks.finish(tenant, last - 2));
+            told.push(locks.evict(tenant, last));
         }
         (told, block)
     };

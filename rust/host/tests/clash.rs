@@ -3,7 +3,7 @@
 
 mod common;
 
-use common::{base, entry, Picture, BLOCKED, FREE, WAITING};
+use common::{base, entry, Call, Picture, BLOCKED, FREE, WAITING};
 use damsonpouch::{held, Answer, Held, Locks, Refusal, State, BLOCK_LENGTH};
 
 /// Reads and writes.
@@ -123,6 +123,37 @@ fn one_of_two_holders_leaves() {
     assert_eq!(locks.recheck(2, 1).to_string(), "free:2.1 2");
     assert_eq!(locks.finish(2, 1).to_string(), "done 0");
     assert_eq!(locks.begin(2, 0, &[], &[70]).to_string(), "free:2.2 4");
+}
+
+/// What is taken out holds nothing any more: what another has too is still told,
+/// and counted, and what it alone had is not.
+#[test]
+fn what_is_taken_out_holds_nothing() {
+    // 10 is written by 1.1 and 2.1; 20 is read by 1.2; 5 and 12 are 2.1's alone
+    // who then asks for all four is told the lowest of those that are left
+    let taken: [(Call, Held, u8); 4] = [
+        (|locks| locks.evict(1, 1), counts(2, 2, 4), 5),
+        (|locks| locks.evict(1, 2), counts(2, 1, 3), 5),
+        (|locks| locks.evict(2, 1), counts(1, 1, 2), 10),
+        (|locks| locks.cancel(2, 1), counts(1, 1, 2), 10),
+    ];
+    for (take_out, left, lowest) in taken {
+        let mut block = base().bytes();
+        let mut locks = Locks::over(&mut block);
+        assert_eq!(take_out(&mut locks).answer, Ok(Answer::Done));
+        assert_eq!(locks.held(), Ok(left));
+        let begun = locks.begin(1, 0, &[], &[5, 10, 12, 20]);
+        assert_eq!(begun.answer.map(Answer::clash), Ok(Some(lowest)));
+    }
+    // both holders of 70, and then nobody
+    let mut block = holding(&[(FREE, (&[], &[70])), (BLOCKED, (&[70], &[]))]).bytes();
+    let mut locks = Locks::over(&mut block);
+    assert_eq!(locks.grant(1, 1).to_string(), "ok 0");
+    assert_eq!(locks.cancel(1, 2).to_string(), "done 1");
+    assert_eq!(locks.held(), Ok(counts(1, 0, 1)));
+    assert_eq!(locks.evict(1, 1).to_string(), "done 0");
+    assert_eq!(locks.held(), Ok(counts(0, 0, 0)));
+    assert_eq!(locks.begin(2, 0, &[], &[70]).to_string(), "free:2.1 4");
 }
 
 fn counts(written: u16, read: u16, either: u16) -> Held {

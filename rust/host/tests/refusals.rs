@@ -56,6 +56,10 @@ fn refusal_1_no_such_tenant() {
     refused(1, |locks| locks.scan(17));
     refused(1, |locks| locks.deliver(0, 1));
     refused(1, |locks| locks.deliver(17, 1));
+    refused(1, |locks| locks.evict(0, 1));
+    refused(1, |locks| locks.evict(17, 65_535));
+    refused(1, |locks| locks.cancel(0, 1));
+    refused(1, |locks| locks.cancel(255, 0));
 }
 
 #[test]
@@ -64,10 +68,16 @@ fn refusal_2_dry() {
     refused(2, |locks| locks.finish(3, 1));
     refused(2, |locks| locks.recheck(3, 1));
     refused(2, |locks| locks.scan(3));
+    refused(2, |locks| locks.cancel(3, 1));
     // Finish of an entry that is not Free
     let dry = base().fuel(2, 0).bytes();
     gives(&dry, |locks| locks.finish(2, 1), "refused:2 0", &dry);
     gives(&dry, |locks| locks.recheck(2, 1), "refused:2 0", &dry);
+    gives(&dry, |locks| locks.cancel(2, 1), "refused:2 0", &dry);
+    // before 11, and not of Evict, which is the host's
+    let dry = base().fuel(1, 0).bytes();
+    gives(&dry, |locks| locks.cancel(1, 1), "refused:2 0", &dry);
+    refused(10, |locks| locks.evict(3, 1));
 }
 
 #[test]
@@ -207,6 +217,22 @@ fn refusal_10_no_such_entry() {
     charged(10, |locks| locks.finish(1, 257));
     refused(10, |locks| locks.deliver(1, 3));
     refused(10, |locks| locks.deliver(3, 1));
+    charged(10, |locks| locks.cancel(1, 3));
+    charged(10, |locks| locks.cancel(1, 0));
+    charged(10, |locks| locks.cancel(1, 257));
+    charged(10, |locks| locks.cancel(1, 65_535));
+    refused(10, |locks| locks.evict(1, 3));
+    refused(10, |locks| locks.evict(1, 0));
+    refused(10, |locks| locks.evict(1, 257));
+    refused(10, |locks| locks.evict(1, 65_535));
+    // 1.2 is there, and no 2.2: a tenant cancels its own
+    refused(10, |locks| locks.evict(2, 2));
+    gives(
+        &base().fuel(2, 1).bytes(),
+        |locks| locks.cancel(2, 2),
+        "refused:10 1",
+        &base().fuel(2, 0).bytes(),
+    );
 }
 
 #[test]
@@ -214,20 +240,21 @@ fn refusal_11_wrong_state() {
     charged(11, |locks| locks.finish(1, 2));
     charged(11, |locks| locks.recheck(1, 1));
     charged(11, |locks| locks.recheck(1, 2));
+    charged(11, |locks| locks.cancel(1, 1));
+    charged(11, |locks| locks.cancel(1, 2));
     gives(
         &base().bytes(),
         |locks| locks.finish(2, 1),
         "refused:11 1",
         &base().fuel(2, 29).bytes(),
     );
-    // 11 before 9
+    // 11 before 9; of Cancel on its last unit
     let poor = base().fuel(1, 1);
-    gives(
-        &poor.bytes(),
-        |locks| locks.recheck(1, 1),
-        "refused:11 1",
-        &poor.clone().fuel(1, 0).bytes(),
-    );
+    let calls: [Call; 2] = [|locks| locks.recheck(1, 1), |locks| locks.cancel(1, 1)];
+    for call in calls {
+        let after = poor.clone().fuel(1, 0).bytes();
+        gives(&poor.bytes(), call, "refused:11 1", &after);
+    }
 }
 
 #[test]
@@ -272,7 +299,7 @@ fn refusal_14_bad_shares() {
 fn refusal_15_comes_first() {
     let mut broken = base().bytes();
     broken[0] = 0;
-    let calls: [Call; 9] = [
+    let calls: [Call; 13] = [
         |locks| locks.grant(0, 1),
         |locks| locks.grant(1, 4_294_967_295),
         |locks| locks.begin(0, 16, &NINE, &NINE),
@@ -282,6 +309,10 @@ fn refusal_15_comes_first() {
         |locks| locks.scan(17),
         |locks| locks.pick(),
         |locks| locks.deliver(1, 9),
+        |locks| locks.evict(17, 1),
+        |locks| locks.evict(1, 1),
+        |locks| locks.cancel(0, 1),
+        |locks| locks.cancel(2, 1),
     ];
     for call in calls {
         gives(&broken, call, "refused:15 0", &broken);
@@ -316,5 +347,17 @@ fn tenant_16() {
         |locks| locks.recheck(16, 1),
         "free:16.1 2",
         &after.clone().fuel(16, 0).bytes(),
+    );
+    gives(
+        &blocked.bytes(),
+        |locks| locks.cancel(16, 1),
+        "done 1",
+        &after.clone().fuel(16, 1).without(0).bytes(),
+    );
+    gives(
+        &after.bytes(),
+        |locks| locks.evict(16, 1),
+        "done 0",
+        &after.clone().without(0).bytes(),
     );
 }
