@@ -79,18 +79,23 @@ static void base_meters(uint8_t *block) {
     serials(block, 2, 1);
 }
 
-static void base_behind_first(uint8_t *block) {
-    entry(block, 1, 2, WAITING, 2, 1, "\x14", "");
-    entry(block, 2, 1, BLOCKED, 0, 0, "\x05", "\x0a\x0c");
+/* The place of no entry. */
+#define NOBODY (-1)
+
+/* What is left of the base without the entry at this place. */
+static void base_without(uint8_t *block, int place) {
+    base_meters(block);
+    if (place != 0)
+        entry(block, 1, 1, FREE, 0, 0, "", "\x0a");
+    if (place != 1)
+        entry(block, 1, 2, WAITING, 2, 1, "\x14", "");
+    if (place != 2)
+        entry(block, 2, 1, BLOCKED, 0, 0, "\x05", "\x0a\x0c");
 }
 
 /* Tenant 1 runs 1.1 and waits with 1.2, which the second of two answers is due to; 2.1 is blocked behind 1.1. Tenant 2 holds its
  * one place; tenant 3 has places and no fuel. */
-static void base(uint8_t *block) {
-    base_meters(block);
-    entry(block, 1, 1, FREE, 0, 0, "", "\x0a");
-    base_behind_first(block);
-}
+static void base(uint8_t *block) { base_without(block, NOBODY); }
 
 /* Both blocks as the base. A test changes `now`, calls on it, and says in `due` what it shall then be. */
 static void start(void) {
@@ -172,6 +177,8 @@ static void same_block(int line) {
 #define SCAN(tenant) damsonpouch_scan(now, LENGTH, tenant)
 #define PICK() damsonpouch_pick(now, LENGTH)
 #define DELIVER(tenant, serial) damsonpouch_deliver(now, LENGTH, tenant, serial)
+#define EVICT(tenant, serial) damsonpouch_evict(now, LENGTH, tenant, serial)
+#define CANCEL(tenant, serial) damsonpouch_cancel(now, LENGTH, tenant, serial)
 #define HELD() damsonpouch_held(now, LENGTH)
 
 static const uint8_t two_two[16] = {2, 2};
@@ -381,12 +388,6 @@ static void clashes(void) {
     CLASHES(BEGIN(1, 0, "\x05\x0c", 2, "\x0b", 1), 1, 3, 12, 8);
 }
 
-/* What is left of the base without 1.1. */
-static void base_without_first(uint8_t *block) {
-    base_meters(block);
-    base_behind_first(block);
-}
-
 /* How many records are held: none, some, as many after a Finish that leaves each to another, and with records in both counts. */
 static void holds(void) {
     fresh(now, "11");
@@ -395,7 +396,7 @@ static void holds(void) {
     start();
     HOLDS(2, 2, 4);
     /* 1.1 leaves, and 2.1 still writes 10 */
-    base_without_first(due);
+    base_without(due, 0);
     PLAIN(FINISH(1, 1), DAMSONPOUCH_DONE);
     HOLDS(2, 2, 4);
     /* one entry; then another, which reads what it writes and writes what it reads */
@@ -411,7 +412,7 @@ static void holds(void) {
 
 static void finishes_and_searches(void) {
     start();
-    base_without_first(due);
+    base_without(due, 0);
     PLAIN(FINISH(1, 1), DAMSONPOUCH_DONE);
 
     start();
@@ -420,14 +421,14 @@ static void finishes_and_searches(void) {
     fuel(due, 2, 17);
     BURNS(SCAN(2), DAMSONPOUCH_NOTHING, 9);
 
-    base_without_first(now);
-    base_without_first(due);
+    base_without(now, 0);
+    base_without(due, 0);
     fuel(due, 2, 26);
     due[640 + 24 + 3] = FREE;
     NAMES(RECHECK(2, 1), FREE, 2, 1, 4);
 
-    base_without_first(now);
-    base_without_first(due);
+    base_without(now, 0);
+    base_without(due, 0);
     fuel(due, 1, 33);
     BURNS(SCAN(1), DAMSONPOUCH_NOTHING, 7);
     fuel(due, 2, 23);
@@ -484,6 +485,130 @@ static void promotes(void) {
     }
 }
 
+static const uint8_t three_tenants[] = {1, 2, 1};
+static const uint16_t three_serials[] = {1, 1, 2};
+
+/* 1.1, 2.1 and 1.2, without the one at this place. `states` has their states as digits of three, the front's lowest. Each reads 5
+ * and a record of its own, and writes one of its own. Both tenants hold all their places, and have this fuel. */
+static void three(uint8_t *block, int states, int without, uint32_t units) {
+    static const char *const reads[] = {"\x05\x64", "\x05\x65", "\x05\x66"}, *const writes[] = {"\x1e", "\x1f", "\x20"};
+    fresh(block, "21");
+    fuel(block, 1, units);
+    fuel(block, 2, units);
+    serials(block, 1, 2);
+    serials(block, 2, 1);
+    for (int k = 0; k < 3; k++, states /= 3)
+        if (k != without)
+            entry(block, three_tenants[k], three_serials[k], states % 3, 2, states % 3 != FREE, reads[k], writes[k]);
+}
+
+/* Every state at every place, beside all others. Evict takes any of them out, on a dry tank and on one that holds no more, and
+ * burns nothing; Cancel a Blocked one, for a unit, to the last. */
+static void takes_out_of_three(void) {
+    static const uint32_t tanks[] = {0, 1, 1000000000};
+    for (int states = 0; states < 27; states++)
+        for (int k = 0; k < 3; k++) {
+            const int state = k == 0 ? states % 3 : k == 1 ? states / 3 % 3 : states / 9;
+            const uint8_t tenant = three_tenants[k];
+            const uint16_t serial = three_serials[k];
+            for (size_t tank = 0; tank < 3; tank++) {
+                three(now, states, NOBODY, tanks[tank]);
+                three(due, states, k, tanks[tank]);
+                PLAIN(EVICT(tenant, serial), DAMSONPOUCH_DONE);
+                SOUND(true);
+            }
+            for (size_t tank = 1; tank < 3; tank++) {
+                three(now, states, NOBODY, tanks[tank]);
+                three(due, states, state == BLOCKED ? k : NOBODY, tanks[tank]);
+                fuel(due, tenant, tanks[tank] - 1);
+                if (state == BLOCKED)
+                    BURNS(CANCEL(tenant, serial), DAMSONPOUCH_DONE, 1);
+                else
+                    REFUSES(CANCEL(tenant, serial), DAMSONPOUCH_WRONG_STATE, 1);
+                SOUND(true);
+            }
+        }
+}
+
+/* 64 Blocked entries, 1.700 and on, without the one at this place. Each reads a record of its own; all write 200. */
+static void sixty_four(uint8_t *block, int without) {
+    fresh(block, "p"); /* 64 */
+    fuel(block, 1, 9);
+    serials(block, 1, 900);
+    for (int k = 0; k < 64; k++) {
+        const char own[] = {(char)(k + 1), 0};
+        if (k != without)
+            entry(block, 1, 700 + (unsigned)k, BLOCKED, 0, 0, own, "\xc8");
+    }
+}
+
+/* An entry is taken out by the host in any state, and a Blocked one by its tenant for a unit. Both release counters and place, and
+ * refund no fuel. */
+static void takes_out(void) {
+    /* at the front, in the middle, last; what another entry has too is still held */
+    start();
+    base_without(due, 0);
+    PLAIN(EVICT(1, 1), DAMSONPOUCH_DONE);
+    HOLDS(2, 2, 4);
+    start();
+    base_without(due, 1);
+    PLAIN(EVICT(1, 2), DAMSONPOUCH_DONE);
+    HOLDS(2, 1, 3);
+    start();
+    base_without(due, 2);
+    PLAIN(EVICT(2, 1), DAMSONPOUCH_DONE);
+    HOLDS(1, 1, 2);
+    start();
+    base_without(due, 2);
+    fuel(due, 2, 29);
+    BURNS(CANCEL(2, 1), DAMSONPOUCH_DONE, 1);
+    HOLDS(1, 1, 2);
+    /* tenant 2 has its place again, and the next serial; 12 is let go */
+    fuel(due, 2, 25);
+    serials(due, 2, 2);
+    entry(due, 2, 2, FREE, 0, 0, "", "\x0c");
+    NAMES(BEGIN(2, 0, NULL, 0, "\x0c", 1), FREE, 2, 2, 4);
+    fuel(due, 2, 24);
+    REFUSES(BEGIN(2, 0, NULL, 0, NULL, 0), 7, 1);
+
+    takes_out_of_three();
+    for (int k = 0; k < 64; k++) {
+        const uint16_t serial = (uint16_t)(700 + k);
+        sixty_four(now, NOBODY);
+        sixty_four(due, k);
+        PLAIN(EVICT(1, serial), DAMSONPOUCH_DONE);
+        sixty_four(now, NOBODY);
+        fuel(due, 1, 8);
+        BURNS(CANCEL(1, serial), DAMSONPOUCH_DONE, 1);
+    }
+
+    /* none, some or all answers of a Blocked one have come */
+    for (int still_due = 0; still_due <= 3; still_due++) {
+        fresh(due, "1");
+        serials(due, 1, 300);
+        alone(now, BLOCKED, still_due, 1);
+        BURNS(CANCEL(1, 300), DAMSONPOUCH_DONE, 1);
+        alone(now, BLOCKED, still_due, 0);
+        PLAIN(EVICT(1, 300), DAMSONPOUCH_DONE);
+    }
+}
+
+/* Nobody is promoted by an eviction: 2.1, behind 1.1, is still Blocked, and then the host picks it. 1.1 is nobody's name. */
+static void promotes_nobody(void) {
+    start();
+    base_without(due, 0);
+    PLAIN(EVICT(1, 1), DAMSONPOUCH_DONE);
+    PLAIN(PICK(), DAMSONPOUCH_NOTHING);
+    base_meters(due);
+    entry(due, 2, 1, BLOCKED, 0, 0, "\x05", "\x0a\x0c");
+    PLAIN(EVICT(1, 2), DAMSONPOUCH_DONE);
+    due[640 + 3] = FREE;
+    NAMES(PICK(), FREE, 2, 1, 0);
+    fuel(due, 1, 39);
+    REFUSES(FINISH(1, 1), DAMSONPOUCH_NO_SUCH_ENTRY, 1);
+    REFUSES(EVICT(1, 1), 10, 0);
+}
+
 /* ---- the refusals, by their numbers */
 
 static void refusals_1_and_2(void) {
@@ -495,11 +620,22 @@ static void refusals_1_and_2(void) {
         REFUSES(RECHECK((uint8_t)tenant, 1), 1, 0);
         REFUSES(SCAN((uint8_t)tenant), 1, 0);
         REFUSES(DELIVER((uint8_t)tenant, 1), 1, 0);
+        REFUSES(EVICT((uint8_t)tenant, 1), 1, 0);
+        REFUSES(CANCEL((uint8_t)tenant, 1), 1, 0);
     }
     REFUSES(BEGIN(3, 16, long_list, 9, NULL, 0), DAMSONPOUCH_DRY, 0);
     REFUSES(FINISH(3, 1), 2, 0);
     REFUSES(RECHECK(3, 1), 2, 0);
     REFUSES(SCAN(3), 2, 0);
+    REFUSES(CANCEL(3, 1), 2, 0);
+    /* of Cancel before 11 too; and not of Evict, which is the host's */
+    REFUSES(EVICT(3, 1), DAMSONPOUCH_NO_SUCH_ENTRY, 0);
+    fuel(now, 1, 0);
+    fuel(due, 1, 0);
+    fuel(now, 2, 0);
+    fuel(due, 2, 0);
+    REFUSES(CANCEL(1, 1), 2, 0);
+    REFUSES(CANCEL(2, 1), 2, 0);
 }
 
 /* Burns one unit of tenant 1's 40, and changes nothing else. */
@@ -551,8 +687,24 @@ static void refusals_9_to_13(void) {
     CHARGES(RECHECK(1, 65535), 10);
     CHARGES(FINISH(1, 2), DAMSONPOUCH_WRONG_STATE);
     CHARGES(RECHECK(1, 1), 11);
+    CHARGES(CANCEL(1, 3), 10);
+    CHARGES(CANCEL(1, 0), 10);
+    CHARGES(CANCEL(1, 257), 10);
+    CHARGES(CANCEL(1, 65535), 10);
+    CHARGES(CANCEL(1, 1), 11);
+    CHARGES(CANCEL(1, 2), 11);
+    /* 1.2 is there, and no 2.2: a tenant cancels its own */
+    start();
+    fuel(now, 2, 1);
+    fuel(due, 2, 0);
+    REFUSES(CANCEL(2, 2), 10, 1);
 
     start();
+    REFUSES(EVICT(1, 3), 10, 0);
+    REFUSES(EVICT(1, 0), 10, 0);
+    REFUSES(EVICT(1, 257), 10, 0);
+    REFUSES(EVICT(1, 65535), 10, 0);
+    REFUSES(EVICT(2, 2), 10, 0);
     REFUSES(DELIVER(1, 3), 10, 0);
     REFUSES(DELIVER(1, 1), DAMSONPOUCH_NOTHING_DUE, 0);
     REFUSES(DELIVER(2, 1), 12, 0);
@@ -591,6 +743,10 @@ static void refused_15(int line) {
     same_reply(line, SCAN(1), 4, 15, 0, 0, 0, 0);
     same_reply(line, PICK(), 4, 15, 0, 0, 0, 0);
     same_reply(line, DELIVER(1, 2), 4, 15, 0, 0, 0, 0);
+    same_reply(line, EVICT(1, 1), 4, 15, 0, 0, 0, 0);
+    same_reply(line, EVICT(17, 1), 4, 15, 0, 0, 0, 0);
+    same_reply(line, CANCEL(2, 1), 4, 15, 0, 0, 0, 0);
+    same_reply(line, CANCEL(17, 1), 4, 15, 0, 0, 0, 0);
     same_counts(line, HELD(), DAMSONPOUCH_NOT_SOUND, 0, 0, 0);
     if (damsonpouch_sound(now, LENGTH))
         tell(line, "the block is sound");
@@ -659,6 +815,8 @@ static void wrong_lengths(void) {
         same_reply(__LINE__, damsonpouch_scan(more, n, 1), 4, 15, 0, 0, 0, 0);
         same_reply(__LINE__, damsonpouch_pick(more, n), 4, 15, 0, 0, 0, 0);
         same_reply(__LINE__, damsonpouch_deliver(more, n, 1, 2), 4, 15, 0, 0, 0, 0);
+        same_reply(__LINE__, damsonpouch_evict(more, n, 1, 1), 4, 15, 0, 0, 0, 0);
+        same_reply(__LINE__, damsonpouch_cancel(more, n, 2, 1), 4, 15, 0, 0, 0, 0);
         same_counts(__LINE__, damsonpouch_held(more, n), 15, 0, 0, 0);
         if (damsonpouch_sound(more, n))
             tell(__LINE__, "a block of %lu bytes is sound", (unsigned long)n);
@@ -693,6 +851,8 @@ int main(void) {
     finishes_and_searches();
     picks_and_delivers();
     promotes();
+    takes_out();
+    promotes_nobody();
     refusals_1_and_2();
     refusals_3_to_8();
     refusals_9_to_13();
