@@ -4,7 +4,7 @@
 use crate::calls::{Call, Said, BY_HAND, LINKED};
 use crate::seeded;
 use events::random::Random;
-use inblock::{Counts, BLOCK_BYTES, REFUSED};
+use inblock::{Counts, BLOCK_BYTES, DONE, REFUSED};
 
 const SEQUENCES: usize = 60;
 const CALLS: usize = 250;
@@ -18,14 +18,22 @@ pub struct Tally {
     pub refused: usize,
     /// Begins that were told a record that they clashed on.
     pub clashed: usize,
+    /// Entries that an Evict took out, and that a Cancel did.
+    pub evicted: usize,
+    pub cancelled: usize,
 }
 
 impl Tally {
-    fn note(&mut self, said: Said) {
+    fn note(&mut self, call: &Call, said: Said) {
         match said {
             Said::Reply(reply) => {
                 self.refused += usize::from(reply.kind == REFUSED && reply.number == 15);
                 self.clashed += usize::from(reply.clashed == 1);
+                match call {
+                    Call::Evict(..) => self.evicted += usize::from(reply.kind == DONE),
+                    Call::Cancel(..) => self.cancelled += usize::from(reply.kind == DONE),
+                    _ => {}
+                }
             }
             Said::Held(Counts { number: 15, .. }) => self.refused += 1,
             _ => {}
@@ -57,11 +65,11 @@ pub fn agree(seed: u64) -> Result<Tally, String> {
                 } else {
                     seeded::call(&mut random, &damaged, top)
                 };
-                tally.note(both(&call, &mut damaged)?);
+                tally.note(&call, both(&call, &mut damaged)?);
                 tally.damaged += 1;
             }
             let call = seeded::call(&mut random, &block, top);
-            tally.note(both(&call, &mut block)?);
+            tally.note(&call, both(&call, &mut block)?);
             tally.plain += 1;
         }
     }

@@ -1,4 +1,4 @@
-//! The eight calls, the check and the count of what is held, linked and by hand,
+//! The ten calls, the check and the count of what is held, linked and by hand,
 //! behind the same types: both are reached through a C function that the compiler
 //! does not look into.
 
@@ -21,6 +21,8 @@ pub struct Calls {
     pub scan: unsafe extern "C" fn(*mut u8, usize, u8) -> Reply,
     pub pick: unsafe extern "C" fn(*mut u8, usize) -> Reply,
     pub deliver: Named,
+    pub evict: Named,
+    pub cancel: Named,
     pub sound: unsafe extern "C" fn(*const u8, usize) -> bool,
     pub held: unsafe extern "C" fn(*const u8, usize) -> Counts,
 }
@@ -35,6 +37,8 @@ pub const LINKED: Calls = Calls {
     scan: damsonpouch_scan,
     pick: damsonpouch_pick,
     deliver: damsonpouch_deliver,
+    evict: damsonpouch_evict,
+    cancel: damsonpouch_cancel,
     sound: damsonpouch_sound,
     held: damsonpouch_held,
 };
@@ -49,6 +53,8 @@ pub const BY_HAND: Calls = Calls {
     scan,
     pick,
     deliver,
+    evict,
+    cancel,
     sound,
     held,
 };
@@ -102,6 +108,14 @@ unsafe extern "C" fn deliver(block: *mut u8, length: usize, tenant: u8, serial: 
     inblock::deliver(lent(block, length), tenant, serial)
 }
 
+unsafe extern "C" fn evict(block: *mut u8, length: usize, tenant: u8, serial: u16) -> Reply {
+    inblock::evict(lent(block, length), tenant, serial)
+}
+
+unsafe extern "C" fn cancel(block: *mut u8, length: usize, tenant: u8, serial: u16) -> Reply {
+    inblock::cancel(lent(block, length), tenant, serial)
+}
+
 unsafe extern "C" fn sound(block: *const u8, length: usize) -> bool {
     inblock::sound(slice::from_raw_parts(block, length))
 }
@@ -121,6 +135,8 @@ pub enum Call {
     Scan(u8),
     Pick,
     Deliver(u8, u16),
+    Evict(u8, u16),
+    Cancel(u8, u16),
     Sound,
     Held,
 }
@@ -133,8 +149,9 @@ pub enum Said {
     Held(Counts),
 }
 
-pub const NAMES: [&str; 10] = [
-    "open", "grant", "begin", "finish", "recheck", "scan", "pick", "deliver", "sound", "held",
+pub const NAMES: [&str; 12] = [
+    "open", "grant", "begin", "finish", "recheck", "scan", "pick", "deliver", "evict", "cancel",
+    "sound", "held",
 ];
 
 impl Call {
@@ -149,8 +166,10 @@ impl Call {
             Call::Scan(_) => 5,
             Call::Pick => 6,
             Call::Deliver(..) => 7,
-            Call::Sound => 8,
-            Call::Held => 9,
+            Call::Evict(..) => 8,
+            Call::Cancel(..) => 9,
+            Call::Sound => 10,
+            Call::Held => 11,
         }
     }
 
@@ -165,6 +184,8 @@ impl Call {
             Call::Scan(_) => calls.scan as usize,
             Call::Pick => calls.pick as usize,
             Call::Deliver(..) => calls.deliver as usize,
+            Call::Evict(..) => calls.evict as usize,
+            Call::Cancel(..) => calls.cancel as usize,
             Call::Sound => calls.sound as usize,
             Call::Held => calls.held as usize,
         }
@@ -190,7 +211,9 @@ impl Call {
             ]),
             Call::Finish(tenant, serial)
             | Call::Recheck(tenant, serial)
-            | Call::Deliver(tenant, serial) => {
+            | Call::Deliver(tenant, serial)
+            | Call::Evict(tenant, serial)
+            | Call::Cancel(tenant, serial) => {
                 words[..2].copy_from_slice(&[usize::from(*tenant), usize::from(*serial)])
             }
             Call::Scan(tenant) => words[0] = usize::from(*tenant),
@@ -215,6 +238,8 @@ impl Calls {
             Call::Scan(tenant) => self.scan(block, *tenant),
             Call::Pick => self.pick(block),
             Call::Deliver(tenant, serial) => self.deliver(block, *tenant, *serial),
+            Call::Evict(tenant, serial) => self.evict(block, *tenant, *serial),
+            Call::Cancel(tenant, serial) => self.cancel(block, *tenant, *serial),
             Call::Sound => return Said::Sound(self.sound(block)),
             Call::Held => return Said::Held(self.held(block)),
         })
@@ -276,6 +301,14 @@ impl Calls {
 
     pub fn deliver(&self, block: &mut [u8], tenant: u8, serial: u16) -> Reply {
         unsafe { (self.deliver)(block.as_mut_ptr(), block.len(), tenant, serial) }
+    }
+
+    pub fn evict(&self, block: &mut [u8], tenant: u8, serial: u16) -> Reply {
+        unsafe { (self.evict)(block.as_mut_ptr(), block.len(), tenant, serial) }
+    }
+
+    pub fn cancel(&self, block: &mut [u8], tenant: u8, serial: u16) -> Reply {
+        unsafe { (self.cancel)(block.as_mut_ptr(), block.len(), tenant, serial) }
     }
 
     pub fn sound(&self, block: &[u8]) -> bool {

@@ -51,8 +51,9 @@ fn all() -> Result<(), String> {
     let tally = agree::agree(SEED)?;
     println!(
         "The linked calls and those by hand gave the same replies and left the same bytes: {} calls on blocks that calls \
-         made, and {} on damaged ones, of which {} were refused with 15; {} were told a record that they clashed on.",
-        tally.plain, tally.damaged, tally.refused, tally.clashed
+         made, and {} on damaged ones, of which {} were refused with 15; {} were told a record that they clashed on, and {} \
+         entries were evicted and {} cancelled.",
+        tally.plain, tally.damaged, tally.refused, tally.clashed, tally.evicted, tally.cancelled
     );
     println!();
     show_times();

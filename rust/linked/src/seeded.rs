@@ -71,7 +71,7 @@ pub fn call(random: &mut Random, block: &[u8], top: u8) -> Call {
     } else {
         random.byte_between(0, 17)
     };
-    match random.below(21) {
+    match random.below(24) {
         0..=6 => begin(random, tenant, top),
         7..=9 => Call::Finish(tenant, serial),
         10 | 11 => Call::Recheck(tenant, serial),
@@ -80,6 +80,8 @@ pub fn call(random: &mut Random, block: &[u8], top: u8) -> Call {
         15 | 16 => Call::Deliver(tenant, serial),
         17 => Call::Sound,
         18 => Call::Held,
+        19 => Call::Evict(owner, serial),
+        20 | 21 => Call::Cancel(tenant, serial),
         _ => {
             let amount = random.one_of(&[0, 1, 5, 40, 400, 3_000, 1_000_000_000, u32::MAX]);
             Call::Grant(tenant, amount)

@@ -105,6 +105,8 @@ pub fn worst(calls: &Calls, seed: u64) -> [usize; NAMES.len()] {
             Call::Scan(1),
             Call::Pick,
             Call::Deliver(1, 1),
+            Call::Evict(1, 1),
+            Call::Cancel(1, 1),
             Call::Grant(1, 0),
             Call::Sound,
             Call::Held,
