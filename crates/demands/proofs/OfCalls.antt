@@ -89,7 +89,7 @@ module _ (s : CodeStep) (m : Made s) where
     admission = λ who awaited reads writes is may. seen-as (Joins clause9 t (asked t who awaited reads writes)) (Begin who awaited reads writes) is (promised .admits t who awaited reads writes may);
     letting-go = λ who serial is may. seen-as (Leaves t who serial) (Finish who serial) is (promised .finishes t who serial may);
     front-picked = λ e q is front. seen-as (FrontRuns e q) Pick is (promised .picks t e q front);
-    eviction-takes = λ from serial who is. seen-as (Takes t from who) (Evict from serial) is (promised .eviction-takes t from serial who);
+    eviction-takes = λ whose serial who is. seen-as (Takes t whose who) (Evict whose serial) is (promised .eviction-takes t whose serial who);
     others-lower-neither = λ who tenant shut other kept. seen-by (LowersNeither t who) (promised .others-lower-neither t (s .call) who sound tenant shut other kept);
     evicted = λ ahead e behind is queue. seen-as (TakenOut t ahead e behind 0) (Evict (e .tenant) (e .serial)) is (promised .evicts t ahead e behind sound queue);
     cancelled = λ ahead e behind is queue fuelled blocked. seen-as (TakenOut t ahead e behind 1) (Cancel (e .tenant) (e .serial)) is (promised .cancels t ahead e behind sound queue fuelled blocked);

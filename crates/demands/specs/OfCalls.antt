@@ -194,9 +194,9 @@ FrontPicked s =
 -- host lowers either
 abbrev pub EvictionTakes : CodeStep → Type 0
 EvictionTakes s =
-    (from serial who : ℕ) →
-    s .call ≡ Evict from serial →
-    Takes (tableOf s) from who (outcomeOf s)
+    (whose serial who : ℕ) →
+    s .call ≡ Evict whose serial →
+    Takes (tableOf s) whose who (outcomeOf s)
 
 abbrev pub OthersLowerNeither : CodeStep → Type 0
 OthersLowerNeither s =

@@ -1,17 +1,13 @@
 -- The table of calls, by its tags: each kind has one, and no other number is a tag. And what a body's shape says of its length.
 use Prim.Native.Nat.{ℕ, _-_}
-use mathlib.Core.Path.{_≡_, refl, sym, ap, _∙_}
-use mathlib.Core.Bool.{Bool, true, false, _&&_}
-use mathlib.Core.List.{List, [], _∷_}
+use mathlib.Core.Path.{_≡_, refl, ap}
+use mathlib.Core.Bool.{true, false, _&&_}
 use lib.Dec.{eqb, leb}
 use Rattle.rules.specs.declared.Kind.{Kind}
 use Rattle.rules.specs.declared.Kind.the-variants.{Open, Grant, Begin, Finish, Recheck, Scan, Pick, Deliver, Evict, Cancel}
-use Rattle.rules.specs.Lists.{some}
 use Rattle.rules.specs.CallTable.{Body, bytes, lists, rowOf, kinds}
-use Rattle.rules.proofs.Tests.{if-cases}
-use Rattle.events.specs.declared.Tagged.{Tagged}
 use Rattle.events.specs.declared.Tagged.the-variants.{Known, Unknown}
-use Rattle.events.specs.Events.{isTag, kindIn, kindOf, fits, isLists, bytesIn}
+use Rattle.events.specs.Events.{isKnown, isTag, kindIn, kindOf, fits, isLists, bytesIn}
 
 -- every kind is in the table, under its own tag
 pub tag-known : (k : Kind) → kindOf (rowOf k .tag) ≡ Known k
@@ -27,22 +23,12 @@ tag-known Deliver = refl
 tag-known Evict = refl
 tag-known Cancel = refl
 
--- a number is a tag exactly if some call has it
-abbrev isKnown : Tagged → Bool
-isKnown (Known k) = true
-isKnown Unknown = false
-
-known-in : (ks : List Kind) (tag : ℕ) → isKnown (kindIn ks tag) ≡ some (λ k. eqb (rowOf k .tag) tag) ks
-unfolding kindIn some
-known-in [] tag = refl
-known-in (x ∷ ks) tag =
-    if-cases (λ (t : Tagged). isKnown t ≡ some (λ k. eqb (rowOf k .tag) tag) (x ∷ ks)) (eqb (rowOf x .tag) tag) (λ e. rw e refl) (λ e. rw e (known-in ks tag))
-
+-- so a number is a tag exactly if some call has it
 pub known-tag : (tag : ℕ) {k : Kind} → kindOf tag ≡ Known k → isTag tag ≡ true
-known-tag tag e = sym (known-in kinds tag) ∙ ap isKnown e
+known-tag tag e = ap isKnown e
 
 pub unknown-tag : (tag : ℕ) → kindOf tag ≡ Unknown → isTag tag ≡ false
-unknown-tag tag e = sym (known-in kinds tag) ∙ ap isKnown e
+unknown-tag tag e = ap isKnown e
 
 -- ---- lengths
 pub fits-lists : (b : Body) (n r : ℕ) → isLists b ≡ true → fits b n r ≡ (leb 3 n && leb r (n - 3))

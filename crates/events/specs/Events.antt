@@ -7,7 +7,7 @@ use lib.Dec.{eqb, ltb, leb}
 use lib.ListN.{length, getD, take, drop}
 use Rattle.rules.specs.declared.Kind.{Kind}
 use Rattle.rules.specs.declared.Event.{Event}
-use Rattle.rules.specs.Lists.{if_then_else_, some}
+use Rattle.rules.specs.Lists.{if_then_else_}
 use Rattle.rules.specs.CallTable.{Body, bytes, lists, rowOf, kinds, isOpening}
 use Rattle.rules.specs.Refusals.{Row, _gives_, firstOf}
 use Rattle.rules.specs.Runs.{Call, eventOf}
@@ -45,17 +45,21 @@ abbrev pub countIn : List ℕ → ℕ
 countIn body = byteAt body 2
 
 -- ---- tags
--- a tag of the table of calls
-abbrev pub isTag : ℕ → Bool
-isTag tag = some (λ k. eqb (rowOf k .tag) tag) kinds
-
--- and which call it is
+-- which call of the table a tag is
 unfoldable pub kindIn : List Kind → ℕ → Tagged
 kindIn [] tag = Unknown
 kindIn (k ∷ ks) tag = if eqb (rowOf k .tag) tag then Known k else kindIn ks tag
 
 abbrev pub kindOf : ℕ → Tagged
 kindOf tag = kindIn kinds tag
+
+-- 20 is for a tag that no call has
+abbrev pub isKnown : Tagged → Bool
+isKnown (Known k) = true
+isKnown Unknown = false
+
+abbrev pub isTag : ℕ → Bool
+isTag tag = isKnown (kindOf tag)
 
 abbrev pub opens : Tagged → Bool
 opens (Known k) = isOpening (rowOf k .role)

@@ -16,7 +16,7 @@ use Rattle.rules.specs.Request.{Request, nobody, isFree, isWaiting, isBlocked, 
 use Rattle.rules.specs.Table.{Meter, Table, isTenant}
 use Rattle.rules.specs.Prices.{Prices}
 use Rattle.rules.specs.Refusals.{firstOf, standsAt, isAbsent, entryOf, deliverRows}
-use Rattle.rules.specs.Calls.{withoutEntry, pickOf, deliverOf}
+use Rattle.rules.specs.Calls.{withoutEntry, gone, pickOf, deliverOf}
 use Rattle.rules.specs.Said.{said}
 use Rattle.rules.specs.Sound.{Each, Fit, SoundAny, givenBy}
 use Rattle.rules.specs.Runs.{Call, Step, Run, step, isOpen, after, runOf, number}
@@ -135,8 +135,8 @@ module _ {p : Prices} (f : Fair p) (ms : List Meter) (q : List Request) (rest : 
   free-leaves e s free =
       let may : MayLeave (tab ms (e ∷ q)) (e .tenant) (e .serial) = record { tenant = front-fit s .tenant; there = front-there e q; free = ap (λ (r : Request). isFree (r .mode)) (front-entry e q) ∙ free } in
       let o = finishes f (tab ms (e ∷ q)) (e .tenant) (e .serial) may in
-      let out : withoutEntry (standsAt (e .tenant) (e .serial) (e ∷ q)) (e ∷ q) ≡ q = ap (λ (n : ℕ). withoutEntry n (e ∷ q)) (front-at e q) in
-      Quiet.next (Finish (e .tenant) (e .serial)) refl (record { accepted = ap (λ (a : Answer). said a .number) (o .answer); burnt = o .burnt }) (o .table ∙ ap (tab ms) out) on
+      let out : gone (tab ms (e ∷ q)) (e .tenant) (e .serial) ≡ tab ms q = ap (λ (n : ℕ). tab ms (withoutEntry n (e ∷ q))) (front-at e q) in
+      Quiet.next (Finish (e .tenant) (e .serial)) refl (record { accepted = ap (λ (a : Answer). said a .number) (o .answer); burnt = o .burnt }) (o .table ∙ out) on
 
   -- so many answers, and Finish
   abbrev answers : ℕ → Request → List Call

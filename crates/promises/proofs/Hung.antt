@@ -1,5 +1,5 @@
--- The other side of promise 12: an entry that waits for nothing is let go by none of the calls, since Pick finds it running, Deliver
--- finds no answer due and Finish finds it not Free.
+-- The other side of promise 12: an entry that waits for nothing is let go by none of Pick, Deliver and Finish, since Pick finds it running,
+-- Deliver finds no answer due and Finish finds it not Free.
 use Prim.Native.Nat.{ℕ, _<_}
 use mathlib.Core.Path.{_≡_, refl, sym, ap, _∙_}
 use mathlib.Core.Bool.{true, false, true≢false, false≢true}

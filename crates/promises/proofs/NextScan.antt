@@ -11,16 +11,12 @@ use native.Mathlib.Omega.{arith}
 use lib.Dec.{eqb}
 use lib.ListN.{getD, set, take, drop}
 use lib.Seq.{take-add}
-use borrow.Author.Tests.{eq-eqb}
-use Rattle.rules.specs.declared.Answer.{Answer}
-use Rattle.rules.specs.declared.Answer.the-variants.{Refused}
-use Rattle.rules.specs.Lists.{if_then_else_, some}
+use Rattle.rules.specs.Lists.{some}
 use Rattle.rules.specs.Request.{Request, nobody, isNamed, conflict, conflictsAny}
 use Rattle.rules.specs.Table.{Table, isTenant}
 use Rattle.rules.specs.Prices.{Prices, looks, searching}
 use Rattle.rules.specs.Refusals.{firstOf, finishRows, evictRows, cancelRows}
 use Rattle.rules.specs.Calls.{gone, finishOf, evictOf, cancelOf}
-use Rattle.rules.specs.Said.{said}
 use Rattle.rules.specs.Sound.{Each, InOrder, Fit, SoundAny, SerialsRise, givenBy}
 use Rattle.rules.specs.Runs.{Call, step, number, from, runOf}
 use Rattle.rules.proofs.Tests.{both, neither, eqb-sym, lt-or-ge}
@@ -32,6 +28,7 @@ use Rattle.promises.specs.Names.{Claim, claimOf}
 use Rattle.promises.specs.Order.{claimsConflict}
 use Rattle.promises.specs.Searches.{ready}
 use Rattle.promises.specs.TakingOut.{TakesOut, WaitsAt, NextScan}
+use Rattle.promises.proofs.Refusals.{not-refused}
 use Rattle.promises.proofs.Changes.{Change}
 use Rattle.promises.proofs.Names.{differ, fresh-name, each-changed, none-some, kept-on}
 use Rattle.promises.proofs.Search.{search-promotes}
@@ -127,22 +124,15 @@ fewer-looks p q m n le =
 
 -- ---- by any of the calls that take one out
 -- a call that is not refused does its deed
-passed : (z : ℕ) (answer : Answer) → said (if eqb z 0 then answer else Refused z) .number ≡ 0 → eqb z 0 ≡ true
-passed z answer = go (eqb z 0) refl
-  where
-    go : (b : Bool) → eqb z 0 ≡ b → said (if b then answer else Refused z) .number ≡ 0 → b ≡ true
-    go true e h = refl
-    go false e h = sym e ∙ eq-eqb z 0 h
-
 out-queue : (p : Prices) (t : Table) (e : Request) (c : Call) → TakesOut e c → number (step p t c) ≡ 0 → step p t c .table .queue ≡ gone t (e .tenant) (e .serial) .queue
 unfolding finishOf evictOf cancelOf
-out-queue p t e _ TakesOut.evicted h = rw (passed (firstOf (evictRows t (e .tenant) (e .serial))) _ h)
-out-queue p t e _ TakesOut.cancelled h = rw (passed (firstOf (cancelRows t (e .tenant) (e .serial))) _ h)
-out-queue p t e _ TakesOut.finished h = rw (passed (firstOf (finishRows t (e .tenant) (e .serial))) _ h)
+out-queue p t e _ TakesOut.evicted h = rw (not-refused (firstOf (evictRows t (e .tenant) (e .serial))) _ h)
+out-queue p t e _ TakesOut.cancelled h = rw (not-refused (firstOf (cancelRows t (e .tenant) (e .serial))) _ h)
+out-queue p t e _ TakesOut.finished h = rw (not-refused (firstOf (finishRows t (e .tenant) (e .serial))) _ h)
 
 module _ {p : Prices} (pays : Fair p) where
   pub next-scan : NextScan p
-  next-scan t e f c more k s behind out done shut waits enough = record {
+  next-scan t e f c more k s only out done shut waits enough = record {
     at = first .0;
     up-to = first .1;
     promotes = search-promotes pays v (f .tenant) (first .0) tenant (record { there = omega (arith, first .1, waits .there); fits = first .2; first = first .3 })
@@ -157,10 +147,10 @@ module _ {p : Prices} (pays : Fair p) where
       v = runOf p (from u) more .table
 
       front : List Request
-      front = behind .ahead ++ behind .between
+      front = only .ahead ++ only .between
 
-      left : u .queue ≡ front ++ f ∷ behind .behind
-      left = out-queue p t e c out done ∙ ap (λ (x : Table). x .queue) (gone-own s (behind .ahead) e (behind .between ++ f ∷ behind .behind) (behind .queue)) ∙ sym (append-assoc (behind .ahead) (behind .between) (f ∷ behind .behind))
+      left : u .queue ≡ front ++ f ∷ only .behind
+      left = out-queue p t e c out done ∙ ap (λ (x : Table). x .queue) (gone-own s (only .ahead) e (only .between ++ f ∷ only .behind) (only .queue)) ∙ sym (append-assoc (only .ahead) (only .between) (f ∷ only .behind))
 
       sound : SoundAny u
       sound = step-any p s c
@@ -172,7 +162,7 @@ module _ {p : Prices} (pays : Fair p) where
       tenant = own .tenant
 
       clear : InOrder (ClearAs (f .tenant) (f .serial)) (u .queue)
-      clear = subst (InOrder (ClearAs (f .tenant) (f .serial))) (sym left) (begins-clear f front (behind .behind) (subst (InOrder SerialsRise) left (sound .serials)) (behind .clear))
+      clear = subst (InOrder (ClearAs (f .tenant) (f .serial))) (sym left) (begins-clear f front (only .behind) (subst (InOrder SerialsRise) left (sound .serials)) (only .clear))
 
       first : Least (ready (f .tenant) (v .queue)) k
       first = least (ready (f .tenant) (v .queue)) k (is-ready f k v waits (kept-on p (f .tenant) (f .serial) (InOrder (ClearAs (f .tenant) (f .serial))) (stays-clear (f .tenant) (f .serial)) more (from u) shut (own .to-given) clear))

@@ -20,7 +20,7 @@ use Rattle.promises.proofs.Sales.{sellers-conflict, second-waits}
 use Rattle.promises.proofs.Reports.{reports, begin-alone}
 use Rattle.promises.proofs.Turns.{admission-total, queue-order}
 use Rattle.promises.proofs.Order.{order, stays-away, run-in-order}
-use Rattle.promises.proofs.TakingOut.{eviction-takes, others-lower-neither, evicts, host-empties, cancels, cancels-no-other}
+use Rattle.promises.proofs.TakingOut.{eviction-takes, others-lower-neither, evicts, host-empties, cancels, cancels-no-other, takes-none}
 use Rattle.promises.proofs.NextScan.{next-scan}
 
 pub promises : {p : Prices} → Fair p → Promises p
@@ -66,6 +66,7 @@ promises {p} f = record {
   host-empties = host-empties p;
   cancels = cancels p;
   cancels-no-other = cancels-no-other p;
+  takes-none = takes-none p;
   next-scan = next-scan f;
 }
 
@@ -73,7 +74,7 @@ pub clause9-fair : Fair clause9
 clause9-fair = record {
   request = λ n. omega arith;
   finish = refl;
-  cancel = refl;
+  cancel = omega arith;
   search = refl;
   recheck = λ n. omega arith;
   refused = omega arith;

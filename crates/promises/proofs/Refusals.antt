@@ -7,7 +7,7 @@ use mathlib.Core.List.{List, [], _∷_}
 use native.Mathlib.Omega.{arith}
 use lib.Dec.{eqb, ltb}
 use lib.ListN.{length, getD, set, replicate}
-use borrow.Author.Tests.{eqb-false, not-true, not-false}
+use borrow.Author.Tests.{eqb-true, eqb-false, not-true, not-false}
 use Rattle.rules.specs.declared.Answer.{Answer}
 use Rattle.rules.specs.declared.Answer.the-variants.{Ok, Still, Refused}
 use Rattle.rules.specs.Lists.{if_then_else_, some, every, total}
@@ -130,6 +130,10 @@ host-same t = subst (SameButFuel t) (burn-none 0 t) (burn-same 0 0 t)
 by-rows : (z : ℕ) (answer : Answer) → said answer .number ≡ 0 → eqb (said (if eqb z 0 then answer else Refused z) .number) 0 ≡ false → eqb z 0 ≡ false
 by-rows z answer none =
     if-cases (λ (a : Answer). eqb (said a .number) 0 ≡ false → eqb z 0 ≡ false) (eqb z 0) (λ e. λ h. absurd (true≢false (rw none at h))) (λ e. λ h. e)
+
+-- and a call that is not refused has passed them
+pub not-refused : (z : ℕ) (answer : Answer) → said (if eqb z 0 then answer else Refused z) .number ≡ 0 → z ≡ 0
+not-refused z answer = if-cases (λ (a : Answer). said a .number ≡ 0 → z ≡ 0) (eqb z 0) (λ e. λ h. eqb-true z 0 e) (λ e. λ h. h)
 
 -- what a charged refusal burns of the caller's fuel
 abbrev Charge : Prices → Table → ℕ → ℕ → Type 0

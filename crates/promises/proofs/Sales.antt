@@ -2,15 +2,12 @@
 -- one that it uses, finds a conflict ahead.
 use Prim.Native.Nat.{ℕ, _≤_}
 use mathlib.Core.Path.{_≡_, refl, sym, ap, subst, _∙_}
-use mathlib.Core.Bool.{Bool, true, false, _&&_, _||_, false≢true}
+use mathlib.Core.Bool.{Bool, true, _&&_, _||_, false≢true}
 use mathlib.Core.List.{List, [], _∷_, _++_}
 use mathlib.Core.Logic.{⊎-elim}
 use native.Mathlib.Omega.{arith}
 use lib.Dec.{eqb}
-use borrow.Author.Tests.{eqb-true}
-use Rattle.rules.specs.declared.Answer.{Answer}
-use Rattle.rules.specs.declared.Answer.the-variants.{Refused}
-use Rattle.rules.specs.Lists.{if_then_else_, some}
+use Rattle.rules.specs.Lists.{some}
 use Rattle.rules.specs.Records.{member}
 use Rattle.rules.specs.Request.{Request, reduced, isNamed, admitted}
 use Rattle.rules.specs.Table.{Table}
@@ -19,10 +16,9 @@ use Rattle.rules.specs.Refusals.{firstOf, beginRows}
 use Rattle.rules.specs.Clash.{clashesOn, lowestClash}
 use Rattle.rules.specs.Calls.{Outcome, beginOf}
 use Rattle.rules.specs.Verdicts.{sharesAt}
-use Rattle.rules.specs.Said.{said}
 use Rattle.rules.specs.Sound.{Each, Fit, SoundAny, givenBy}
 use Rattle.rules.specs.Runs.{step, number, after, runOf}
-use Rattle.rules.proofs.Tests.{either, or-comm, or-false, or-true, if-cases}
+use Rattle.rules.proofs.Tests.{either, or-comm, or-false, or-true}
 use Rattle.rules.proofs.Conflict.{conflict-sym, shares-conflict}
 use Rattle.rules.proofs.Requests.{admitted-as}
 use Rattle.rules.proofs.Reduced.{reduced-conflicts}
@@ -34,6 +30,7 @@ use Rattle.rules.proofs.Sound.{step-any}
 use Rattle.promises.specs.Fuel.{reached}
 use Rattle.promises.specs.Names.{Claim, claimOf}
 use Rattle.promises.specs.Sales.{Ask, begin, askedAt, meeting, SellersConflict, SecondWaits}
+use Rattle.promises.proofs.Refusals.{not-refused}
 use Rattle.promises.proofs.Changes.{Change}
 use Rattle.promises.proofs.Names.{each-end, book, name-of, fresh-name, each-changed, kept-on}
 
@@ -74,10 +71,6 @@ named-some who serial test (Each.also {x = x} {xs = xs} k ks) h = ⊎-elim
     (either (isNamed who serial x) (some (isNamed who serial) xs) h)
 
 -- ---- the request keeps its lists
--- a Begin that was not refused
-not-refused : (z : ℕ) (answer : Answer) → said (if eqb z 0 then answer else Refused z) .number ≡ 0 → z ≡ 0
-not-refused z answer = if-cases (λ (a : Answer). said a .number ≡ 0 → z ≡ 0) (eqb z 0) (λ e. λ h. eqb-true z 0 e) (λ e. λ h. h)
-
 pub passes : (p : Prices) (t : Table) (a : Ask) → number (step p t (begin a)) ≡ 0 → Admissible p t (askedAt t a)
 unfolding beginOf
 passes p t a h = begin-passes p t (askedAt t a) (not-refused (firstOf (beginRows p t (askedAt t a))) _ h)

@@ -28,7 +28,7 @@ use Rattle.rules.proofs.Keeps.{burn-none}
 use Rattle.rules.proofs.Sound.{step-any}
 use Rattle.promises.specs.Fuel.{Fair, fuelOf}
 use Rattle.promises.specs.Names.{claimOf}
-use Rattle.promises.specs.TakingOut.{Takes, EvictionTakes, evictsFrom, OthersLowerNeither, TakenOut, Evicts, Cancels, CancelsNoOther, evictions, HostEmpties}
+use Rattle.promises.specs.TakingOut.{Takes, EvictionTakes, evictsFrom, OthersLowerNeither, TakenOut, Evicts, Cancels, CancelsNoOther, TakesNone, evictions, HostEmpties}
 use Rattle.promises.proofs.Held.{held-joined, held-gone, held-found, held-rechecked, held-delivered}
 use Rattle.promises.proofs.Fuel.{other-call}
 use Rattle.promises.proofs.Names.{differ}
@@ -37,15 +37,15 @@ use Rattle.promises.proofs.Admissions.{own-name}
 -- ---- 18 An eviction takes a place
 pub eviction-takes : EvictionTakes
 unfolding evictOf
-eviction-takes t from serial who = go (eqb z 0) refl
+eviction-takes t whose serial who = go (eqb z 0) refl
   where
     z : ℕ
-    z = firstOf (evictRows t from serial)
+    z = firstOf (evictRows t whose serial)
 
-    go : (b : Bool) → eqb z 0 ≡ b → Takes t from who (evictOf t from serial)
+    go : (b : Bool) → eqb z 0 ≡ b → Takes t whose who (evictOf t whose serial)
     go true h = record {
       fuel = rw h;
-      places = rw h (held-gone t who from serial (evict-passes t from serial (eqb-true z 0 h) .1));
+      places = rw h (held-gone t who whose serial (evict-passes t whose serial (eqb-true z 0 h) .1));
     }
     go false h = record { fuel = rw h; places = rw (h, h) (omega arith) }
 
@@ -87,14 +87,14 @@ others-lower-neither {p} f t c who s h shut other kept =
 
 -- ---- the entry of a name
 -- the names of those ahead are others
-pub stands-own : (ahead : List Request) (e : Request) (behind : List Request) → InOrder SerialsRise (ahead ++ e ∷ behind) → standsAt (e .tenant) (e .serial) (ahead ++ e ∷ behind) ≡ length ahead
+stands-own : (ahead : List Request) (e : Request) (behind : List Request) → InOrder SerialsRise (ahead ++ e ∷ behind) → standsAt (e .tenant) (e .serial) (ahead ++ e ∷ behind) ≡ length ahead
 unfolding before
 stands-own [] e behind o = rw (own-name (claimOf e))
 stands-own (x ∷ ahead) e behind (InOrder.also k o) =
     let other : isNamed (e .tenant) (e .serial) x ≡ false = differ (claimOf x) (claimOf e) (each-first (each-parts ahead k .1)) in
     rw other (ap suc (stands-own ahead e behind o))
 
-pub without-own : (ahead : List Request) (e : Request) (behind : List Request) → withoutEntry (length ahead) (ahead ++ e ∷ behind) ≡ ahead ++ behind
+without-own : (ahead : List Request) (e : Request) (behind : List Request) → withoutEntry (length ahead) (ahead ++ e ∷ behind) ≡ ahead ++ behind
 without-own ahead e behind = rw (take-append-seam ahead (e ∷ behind), drop-append-add ahead (e ∷ behind) 1) refl
 
 -- ---- 19 What is left of the queue
@@ -105,10 +105,10 @@ module _ {t : Table} (s : SoundAny t) (ahead : List Request) (e : Request) (behi
   place-own : standsAt (e .tenant) (e .serial) (t .queue) ≡ length ahead
   place-own = rw is (stands-own ahead e behind (rw is at (s .serials)))
 
-  pub there-own : isAbsent (e .tenant) (e .serial) (t .queue) ≡ false
+  there-own : isAbsent (e .tenant) (e .serial) (t .queue) ≡ false
   there-own = rw (place-own, is, length-append ahead (e ∷ behind)) (lt-leb (length ahead + length (e ∷ behind)) (length ahead) (omega arith))
 
-  pub entry-own : entryOf (e .tenant) (e .serial) (t .queue) ≡ e
+  entry-own : entryOf (e .tenant) (e .serial) (t .queue) ≡ e
   entry-own = rw (place-own, is) (getD-append-seam ahead e behind nobody)
 
   pub gone-own : gone t (e .tenant) (e .serial) ≡ withQueue t (ahead ++ behind)
@@ -162,6 +162,15 @@ cancel-row {t} s ahead e behind is fuelled =
     go : (b : Bool) → _≡_ {A = ℕ} (if not b then 11 else 0) (if b then 0 else 11)
     go true = refl
     go false = refl
+
+pub takes-none : (p : Prices) → TakesNone p
+unfolding evictOf cancelOf evictRows cancelRows firstOf
+takes-none p t who serial = record {
+  stranger = λ outside. (rw outside, rw outside);
+  dry = λ tenant none. rw (tenant, none);
+  unevicted = λ tenant absent. rw (tenant, absent);
+  uncancelled = λ tenant fuelled absent. rw (tenant, ne-eqb (fuelOf t who) 0 (λ n. omega arith), absent);
+}
 
 module _ (p : Prices) where
   pub cancels : Cancels p

@@ -25,7 +25,7 @@ pub record Fair (p : Prices) : Type 0 where
   pub request : (n : ℕ) → 2 ≤ p .request n + p .release n
   pub finish : p .finish ≡ 0
   -- whoever is not dry can pay for a cancel
-  pub cancel : p .cancel ≡ 1
+  pub cancel : p .cancel ≤ 1
   -- whoever is not dry can pay for a search before its first look
   pub search : p .search ≡ 1
   pub recheck : (n : ℕ) → 1 ≤ p .recheck n

@@ -6,10 +6,10 @@ use mathlib.Core.List.{List, [], _∷_, _++_}
 use Rattle.rules.specs.declared.Answer.the-variants.{Done}
 use Rattle.rules.specs.Records.{WellFormed}
 use Rattle.rules.specs.Request.{Request, reduced, isFree, isBlocked, promoted, admitted}
-use Rattle.rules.specs.Table.{Table, isTenant, meterOf, placesOf, withQueue, mostSerials}
+use Rattle.rules.specs.Table.{Table, isTenant, meterOf, placesOf, mostSerials}
 use Rattle.rules.specs.Prices.{Prices, admission}
-use Rattle.rules.specs.Refusals.{standsAt, isAbsent, entryOf}
-use Rattle.rules.specs.Calls.{Outcome, named, begun, withoutEntry, asked, beginOf, finishOf, pickOf}
+use Rattle.rules.specs.Refusals.{isAbsent, entryOf}
+use Rattle.rules.specs.Calls.{Outcome, named, begun, gone, asked, beginOf, finishOf, pickOf}
 use Rattle.promises.specs.Fuel.{fuelOf}
 
 -- ---- 5 "A well-formed request from a tenant below its share, with serials left and fuel for the price, is admitted": e is the
@@ -42,7 +42,7 @@ pub record MayLeave (t : Table) (who serial : ℕ) : Type 0 where
 
 pub record Leaves (t : Table) (who serial : ℕ) (o : Outcome) : Type 0 where
   pub answer : o .answer ≡ Done
-  pub table : o .table ≡ withQueue t (withoutEntry (standsAt who serial (t .queue)) (t .queue))
+  pub table : o .table ≡ gone t who serial
   pub burnt : o .burnt ≡ 0
 
 abbrev pub Finishes : Prices → Type 0

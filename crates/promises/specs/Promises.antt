@@ -15,7 +15,7 @@ use Rattle.promises.specs.Drains.{NeverHangs, Drains, AlwaysDrains}
 use Rattle.promises.specs.Sales.{SellersConflict, SecondWaits}
 use Rattle.promises.specs.Reports.{Reports, BeginAlone}
 use Rattle.promises.specs.Order.{Order, StaysAway, RunInOrder, AdmissionTotal, QueueOrder}
-use Rattle.promises.specs.TakingOut.{EvictionTakes, OthersLowerNeither, Evicts, HostEmpties, Cancels, CancelsNoOther, NextScan}
+use Rattle.promises.specs.TakingOut.{EvictionTakes, OthersLowerNeither, Evicts, HostEmpties, Cancels, CancelsNoOther, TakesNone, NextScan}
 
 -- 9 the states reached are sound, and name no records but those that the calls named
 abbrev pub AllSound : Prices → Type 1
@@ -85,6 +85,7 @@ pub record Promises (p : Prices) : Type 1 where
   pub host-empties : HostEmpties p
   pub cancels : Cancels p
   pub cancels-no-other : CancelsNoOther p
+  pub takes-none : TakesNone p
   -- 20
   pub next-scan : NextScan p
 

@@ -12,6 +12,7 @@ use Rattle.rules.specs.Records.{member}
 use Rattle.rules.specs.Request.{Request, nobody, isNamed, isBlocked, conflictsAny}
 use Rattle.rules.specs.Table.{Table, isTenant, placesOf, withQueue, burn}
 use Rattle.rules.specs.Prices.{Prices, searching}
+use Rattle.rules.specs.Refusals.{isAbsent}
 use Rattle.rules.specs.Counters.{cx, cs}
 use Rattle.rules.specs.Calls.{Outcome, scanOf, evictOf, cancelOf}
 use Rattle.rules.specs.Sound.{SoundAny}
@@ -22,14 +23,14 @@ use Rattle.promises.specs.Searches.{ready, Promoting}
 
 -- ---- 18 "In demand 3 an eviction may lower a tenant's places, not its fuel"
 -- one that is not refused takes a place from the tenant that it names, and none takes fuel from anybody
-pub record Takes (t : Table) (from who : ℕ) (o : Outcome) : Type 0 where
+pub record Takes (t : Table) (whose who : ℕ) (o : Outcome) : Type 0 where
   pub fuel : fuelOf (o .table) who ≡ fuelOf t who
-  pub places : placesOf (t .queue) who ≡ placesOf (o .table .queue) who + (if eqb (number o) 0 && eqb from who then 1 else 0)
+  pub places : placesOf (t .queue) who ≡ placesOf (o .table .queue) who + (if eqb (number o) 0 && eqb whose who then 1 else 0)
 
 abbrev pub EvictionTakes : Type 0
 EvictionTakes =
-    (t : Table) (from serial who : ℕ) →
-    Takes t from who (evictOf t from serial)
+    (t : Table) (whose serial who : ℕ) →
+    Takes t whose who (evictOf t whose serial)
 
 -- and no other call of a neighbour or of the host lowers either. An Open, which begins a new sequence of calls, is not spoken of.
 abbrev pub evictsFrom : ℕ → Call → Bool
@@ -96,6 +97,16 @@ CancelsNoOther p =
     0 < fuelOf t (e .tenant) →
     isBlocked (e .mode) ≡ false →
     number (cancelOf p t (e .tenant) (e .serial)) ≡ 11
+
+-- what is refused, and in which order: "evict 1, 10"; "cancel 1, 2, 10, then 11"
+pub record Refused (p : Prices) (t : Table) (who serial : ℕ) : Type 0 where
+  pub stranger : isTenant who ≡ false → (number (evictOf t who serial) ≡ 1) × (number (cancelOf p t who serial) ≡ 1)
+  pub dry : isTenant who ≡ true → fuelOf t who ≡ 0 → number (cancelOf p t who serial) ≡ 2
+  pub unevicted : isTenant who ≡ true → isAbsent who serial (t .queue) ≡ true → number (evictOf t who serial) ≡ 10
+  pub uncancelled : isTenant who ≡ true → 0 < fuelOf t who → isAbsent who serial (t .queue) ≡ true → number (cancelOf p t who serial) ≡ 10
+
+abbrev pub TakesNone : Prices → Type 0
+TakesNone p = (t : Table) (who serial : ℕ) → Refused p t who serial
 
 -- so the host alone can empty the queue, whatever the tenants do and whatever fuel they have
 abbrev pub evictions : List Request → List Call
