@@ -79,6 +79,16 @@ Evicts =
     t .queue ≡ ahead ++ e ∷ behind →
     TakenOut t ahead e behind 0 (evictOf t (e .tenant) (e .serial))
 
+-- so the host alone can empty the queue, whatever the tenants do and whatever fuel they have
+abbrev pub evictions : List Request → List Call
+evictions q = map (λ e. Evict (e .tenant) (e .serial)) q
+
+abbrev pub HostEmpties : Prices → Type 0
+HostEmpties p =
+    (t : Table) →
+    SoundAny t →
+    runOf p (from t) (evictions (t .queue)) .table ≡ withQueue t []
+
 -- "cancel for its own Blocked entry": its tenant needs a unit, and with one it gets 11 for an entry that is not Blocked
 abbrev pub Cancels : Prices → Type 0
 Cancels p =
@@ -107,16 +117,6 @@ pub record Refused (p : Prices) (t : Table) (who serial : ℕ) : Type 0 where
 
 abbrev pub TakesNone : Prices → Type 0
 TakesNone p = (t : Table) (who serial : ℕ) → Refused p t who serial
-
--- so the host alone can empty the queue, whatever the tenants do and whatever fuel they have
-abbrev pub evictions : List Request → List Call
-evictions q = map (λ e. Evict (e .tenant) (e .serial)) q
-
-abbrev pub HostEmpties : Prices → Type 0
-HostEmpties p =
-    (t : Table) →
-    SoundAny t →
-    runOf p (from t) (evictions (t .queue)) .table ≡ withQueue t []
 
 -- ---- 20 Whoever conflicted with nothing but the one taken out is promoted by its next Scan with fuel to finish
 -- f stands behind e, and conflicts with nothing else that is ahead of it
