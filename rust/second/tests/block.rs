@@ -4,7 +4,7 @@
 
 mod common;
 
-use common::{burning, busy, said};
+use common::{burning, busy, held, said};
 use second::block::{self, call, read, write, Broken, ListFault, Place, BYTES, CLAUSES};
 use second::{apply, Answer, Event, Held, State, Table};
 
@@ -713,11 +713,6 @@ fn what_is_taken_out_leaves_the_block() {
     let always: Change<'_> = &[(639, &[2]), (THIRD, &[0; 24])];
     // Tenant 2's fuel of 94 ends at 31.
     let paid: Change<'_> = &[(31, &[93])];
-    let held = |written, read, either| Held {
-        written,
-        read,
-        either,
-    };
     let cases: [(Event<'_>, &str, Change<'_>, Change<'_>, Held); 4] = [
         (evict(1, 1), "done 0", front, &[], held(2, 1, 3)),
         (evict(1, 2), "done 0", middle, &[], held(1, 1, 2)),

@@ -3,9 +3,9 @@
 
 mod common;
 
-use common::{busy, cs, cx, opened, said};
+use common::{busy, cs, cx, held, opened, said};
 use second::block::{self, BYTES};
-use second::{Answer, Event, Held, Refusal, State, Table};
+use second::{Answer, Event, Refusal, State, Table};
 
 /// Reads and writes of a Begin as given.
 type Lists = (&'static [u8], &'static [u8]);
@@ -225,14 +225,6 @@ fn all_small_pairs() {
     }
     // A record of a pair clashes in 3 of 9 ways, so that 6 to the third do not.
     assert_eq!(blocked, 729 - 216);
-}
-
-fn held(written: u16, read: u16, either: u16) -> Held {
-    Held {
-        written,
-        read,
-        either,
-    }
 }
 
 #[test]

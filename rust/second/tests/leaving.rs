@@ -4,21 +4,13 @@
 
 mod common;
 
-use common::{assert_refused, busy, cs, cx, opened, said};
-use second::{Held, State, Table};
+use common::{assert_refused, busy, cs, cx, held, opened, said};
+use second::{State, Table};
 
 /// The names in the queue, front first, with their states.
 fn queued(table: &Table) -> Vec<(u8, u16, State)> {
     let queue = table.queue.iter();
     queue.map(|e| (e.tenant, e.serial, e.state)).collect()
-}
-
-fn held(written: u16, read: u16, either: u16) -> Held {
-    Held {
-        written,
-        read,
-        either,
-    }
 }
 
 /// "for an entry in any state": 1.1 is Free and the front, 1.2 Waiting, 2.1

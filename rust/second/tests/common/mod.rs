@@ -2,7 +2,7 @@
 //! by hand from the documents.
 #![allow(dead_code)]
 
-use second::table::TENANTS;
+use second::table::{Held, TENANTS};
 use second::{Answer, Outcome, State, Table};
 
 /// A table with these shares for tenants 1, 2, ...; the rest 0.
@@ -47,6 +47,15 @@ pub fn burning(burnt: u32, answer: Answer) -> Outcome {
 /// The answer and the units burnt, as the listing writes them.
 pub fn said(outcome: Outcome) -> String {
     format!("{} {}", outcome.answer, outcome.burnt)
+}
+
+/// Item 5's counts of records.
+pub fn held(written: u16, read: u16, either: u16) -> Held {
+    Held {
+        written,
+        read,
+        either,
+    }
 }
 
 /// Makes a call that must be refused with this number, burning this much of
