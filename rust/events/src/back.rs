@@ -27,7 +27,8 @@ pub fn to_text(bytes: &[u8]) -> String {
     text
 }
 
-pub(crate) fn record_line(event: Event<'_>) -> String {
+/// A record as a line of text, without its line feed.
+pub fn record_line(event: Event<'_>) -> String {
     let call = event.call();
     match event {
         Event::Open { shares } => format!("{}{}", call, numbers(without_last_zeros(shares))),

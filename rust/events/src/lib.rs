@@ -9,17 +9,21 @@
 //! - `kinds`: the kinds of generated file, and `long`: long files to measure
 //!   with. Each is made with `random` (the numbers) and `sheet` (the file so far
 //!   with the state it leads to).
+//! - `beside`: the proved listing and the second program's, line by line.
 //! - `show`: a listing with the state after each call.
+//! - `comments`: what a text says of its calls.
 //! - `program`: how the programs end.
 
 mod aim;
 pub mod back;
+pub mod beside;
 pub mod blockkinds;
 pub mod blocklines;
 mod boundary;
 pub mod breaks;
 mod clash;
 pub mod clashscenes;
+pub mod comments;
 mod compose;
 mod damaged;
 mod early;

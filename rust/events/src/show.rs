@@ -2,6 +2,7 @@
 //! lines are the proved program's; the state is the second program's, which
 //! says where it would have written another line.
 
+use crate::beside::{beside, Line};
 use second::{apply, listing, Entry, Reader, State, Table};
 use std::io::{self, Write};
 
@@ -14,65 +15,37 @@ const RECORDS: usize = 256;
 /// number of lines in which the second program differs.
 pub fn show(events: &[u8], proved: &[u8], out: &mut impl Write) -> io::Result<usize> {
     let own = listing(events);
-    let mut own = lines(own.as_bytes());
-    let mut proved = lines(proved);
+    let mut lines = beside(proved, own.as_bytes());
     let mut different = 0;
-    let mut line = |out: &mut _| -> io::Result<()> {
-        let same = write_line(proved.next(), own.next(), out)?;
-        different += usize::from(!same);
+    let mut line = |line: Option<Line<'_>>, out: &mut _| -> io::Result<()> {
+        different += line.map_or(Ok(0), |line| write_line(line, out))?;
         Ok(())
     };
-    line(out)?;
+    line(lines.next(), out)?;
     let mut table = Table::default();
     for record in Reader::new(events) {
-        line(out)?;
+        line(lines.next(), out)?;
         if let Ok(event) = record {
             apply(&mut table, event);
             out.write_all(view(&table).as_bytes())?;
         }
     }
-    for surplus in proved {
-        write_line(Some(surplus), None, out)?;
-        different += 1;
+    for surplus in lines {
+        line(Some(surplus), out)?;
     }
     Ok(different)
 }
 
-/// Lines with their line feeds.
-fn lines(text: &[u8]) -> impl Iterator<Item = &[u8]> {
-    text.split_inclusive(|&byte| byte == b'\n')
-}
-
 /// Writes a line of the proved listing, and below it what the second program
-/// has instead, if anything. Gives whether the two are the same.
-fn write_line(proved: Option<&[u8]>, own: Option<&[u8]>, out: &mut impl Write) -> io::Result<bool> {
-    if let Some(line) = proved {
-        writeln!(out, "{}", readable(line))?;
+/// has instead, if anything. Gives 1 where the two differ, and else 0.
+fn write_line(line: Line<'_>, out: &mut impl Write) -> io::Result<usize> {
+    if let Some(proved) = line.shown() {
+        writeln!(out, "{}", proved)?;
     }
-    match (proved, own) {
-        _ if proved == own => return Ok(true),
-        (Some(_), Some(own)) => {
-            writeln!(out, "{} the second program has {}", MARK, quoted(own))?;
-        }
-        (None, Some(own)) => writeln!(
-            out,
-            "{} no line; the second program has {}",
-            MARK,
-            quoted(own)
-        )?,
-        (_, None) => writeln!(out, "{} the second program has no such line", MARK)?,
+    match line.difference() {
+        Some(what) => writeln!(out, "{} {}", MARK, what).map(|()| 1),
+        None => Ok(0),
     }
-    Ok(false)
-}
-
-fn readable(line: &[u8]) -> String {
-    let line = line.strip_suffix(b"\n").unwrap_or(line);
-    String::from_utf8_lossy(line).into_owned()
-}
-
-/// With its line feed, which may be all that differs.
-fn quoted(line: &[u8]) -> String {
-    format!("{:?}", String::from_utf8_lossy(line))
 }
 
 /// The queue, front first, with what each Blocked entry waits for; the counters

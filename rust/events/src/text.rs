@@ -75,16 +75,18 @@ pub fn to_file(text: &[u8]) -> Result<Vec<u8>, WrongLine> {
 
 fn to_bytes_up_to(most: usize, text: &[u8]) -> Result<Vec<u8>, WrongLine> {
     let mut out = Vec::new();
-    for (before, line) in text.split(|&byte| byte == b'\n').enumerate() {
-        let mark = if before == 0 { BYTE_ORDER_MARK } else { "" };
+    for (number, (mark, line)) in (1..).zip(marked_lines(text)) {
         add_line(mark, line, &mut out)
             .and_then(|()| within(most, out.len()))
-            .map_err(|what| WrongLine {
-                line: before + 1,
-                what,
-            })?;
+            .map_err(|what| WrongLine { line: number, what })?;
     }
     Ok(out)
+}
+
+/// The lines of a text, each with the mark that it may begin with.
+pub(crate) fn marked_lines(text: &[u8]) -> impl Iterator<Item = (&'static str, &[u8])> {
+    let marks = std::iter::once(BYTE_ORDER_MARK).chain(std::iter::repeat(""));
+    marks.zip(text.split(|&byte| byte == b'\n'))
 }
 
 fn within(most: usize, bytes: usize) -> Result<(), String> {
@@ -98,7 +100,7 @@ fn within(most: usize, bytes: usize) -> Result<(), String> {
 }
 
 /// A mark that the line begins with is no part of its words, but of its bytes.
-fn add_line(mark: &str, line: &[u8], out: &mut Vec<u8>) -> Result<(), String> {
+pub(crate) fn add_line(mark: &str, line: &[u8], out: &mut Vec<u8>) -> Result<(), String> {
     let mut words = Words::of(code(mark, line)?);
     match words.next() {
         Some(word) => add_record(word, words, out),

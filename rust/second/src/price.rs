@@ -4,7 +4,15 @@ use crate::answer::Refusal;
 
 /// "The price is 2 + 2n: 1 + n now and 1 + n for the release."
 pub fn begin(n: u32) -> u32 {
-    2 + 2 * n
+    now(n) + release(n)
+}
+
+pub fn now(n: u32) -> u32 {
+    1 + n
+}
+
+pub fn release(n: u32) -> u32 {
+    1 + n
 }
 
 pub fn recheck(n: u32) -> u32 {
