@@ -1,7 +1,8 @@
-// The whole run: a bar for each request from its admission to its leaving, in the rows of its tenant's places, and below it the
-// fuel of each tenant. What is true after a step stands in that step's column.
+// The whole run: a bar for each request from its admission to its leaving, in the rows of its tenant's places, and below them
+// the fuel of each tenant. What is true after a step stands in that step's column.
 
-const GUTTER = 34; // left of the columns, for the tenants' numbers
+const GUTTER = 36; // left of the columns, for the tenants' numbers
+const BARS_HEIGHT = 320; // at most, unless the rows would be too thin to see
 const FUEL_HEIGHT = 110;
 
 const chart = { plot: null, cursor: null, cover: null, width: 0 };
@@ -12,95 +13,107 @@ function columnStart(at) {
 
 // Draws the chart as wide as its place is.
 function drawChart() {
-  const place = byId("drawing");
   const { requests, fuel } = wholeRun();
+  const place = byId("drawing");
   chart.width = place.clientWidth;
   const rows = rowsOf(requests);
-  const rowHeight = Math.max(6, Math.min(20, Math.round(320 / Math.max(1, rows.count))));
-  const barsHeight = rows.count * rowHeight + 8;
-  const height = barsHeight + FUEL_HEIGHT + 22;
-  chart.cover = svgElement("rect", { class: "cover", y: 0, height });
+  const rowHeight = Math.max(6, Math.min(20, Math.round(BARS_HEIGHT / Math.max(1, rows.count))));
+  const fuelTop = rows.count * rowHeight + 14;
+  const height = fuelTop + FUEL_HEIGHT + 8;
+  const top = (row) => row * rowHeight + 4;
+  const numbers = [...rows.first].map(([tenant, row]) => tick(`t${tenant}`, top(row) + rowHeight * 0.7));
+  const bars = requests.map((request) => bar(request, top(rows.first.get(request.tenant) + request.row), rowHeight - 3));
   chart.cursor = svgElement("rect", { class: "cursor", y: 0, height });
-  chart.plot = svgElement("svg", { viewBox: `0 0 ${chart.width} ${height}`, height, width: chart.width, "aria-hidden": "true" },
-    patterns(),
-    ...rows.tenants.map(({ tenant, first }) => svgElement("text", { class: "tick", x: GUTTER - 6, y: first * rowHeight + 4 + rowHeight * 0.75 }, `t${tenant}`)),
-    ...requests.map((request) => bar(request, (rows.first.get(request.tenant) + request.row) * rowHeight + 4, rowHeight - 3)),
-    fuelLines(fuel, barsHeight + 6),
-    chart.cursor,
-    chart.cover);
+  chart.cover = svgElement("rect", { class: "cover", y: 0, height });
+  chart.plot = svgElement("svg", { width: chart.width, height, "aria-hidden": "true" },
+    patterns(), ...numbers, ...bars, ...fuelLines(fuel, fuelTop), chart.cursor, chart.cover);
   place.replaceChildren(chart.plot);
-  sayChart(requests, fuel);
+  showLegend(fuel);
 }
 
-// Which rows the tenants have, each as many as it had places in use at once.
+// The rows of the tenants, each as many as it had places in use at once.
 function rowsOf(requests) {
   const most = new Map();
   for (const { tenant, row } of requests) most.set(tenant, Math.max(most.get(tenant) || 0, row + 1));
-  const rows = { count: 0, first: new Map(), tenants: [] };
-  for (const tenant of [...most.keys()].sort((a, b) => a - b)) {
+  const rows = { count: 0, first: new Map() };
+  for (const tenant of [...most.keys()].sort((one, other) => one - other)) {
     rows.first.set(tenant, rows.count);
-    rows.tenants.push({ tenant, first: rows.count });
     rows.count += most.get(tenant);
   }
   return rows;
 }
 
+function tick(words, y) {
+  return svgElement("text", { class: "tick", x: GUTTER - 6, y }, words);
+}
+
 // States differ by more than their colour: what waits is dotted, what is blocked is hatched.
 function patterns() {
-  const tile = (id, ...inside) => svgElement("pattern", { id, width: 6, height: 6, patternUnits: "userSpaceOnUse" }, svgElement("rect", { class: "ground", width: 6, height: 6 }), ...inside);
+  const tile = (state, ...inside) =>
+    svgElement("pattern", { id: state, width: 6, height: 6, patternUnits: "userSpaceOnUse" },
+      svgElement("rect", { class: "ground", width: 6, height: 6 }), ...inside);
   return svgElement("defs", {},
     tile("free"),
     tile("waiting", svgElement("circle", { class: "ink", cx: 3, cy: 3, r: 1.2 })),
     tile("blocked", svgElement("path", { class: "ink", d: "M-1 1L1 -1M0 6L6 0M5 7L7 5" })));
 }
 
-function bar({ name, from, to, states }, top, height) {
-  const ends = [...states.slice(1).map(([at]) => at), to];
-  const told = states.map(([at, state], part) => `${WORD[state]} from step ${at}`).join(", ");
-  const made = svgElement("g", { class: "request", "data-name": name },
-    svgElement("title", {}, `${name}: ${told}${to > last ? "" : `, gone at step ${to}`}`),
-    ...states.map(([at, state], part) => svgElement("rect", {
-      class: `bar ${state}`, x: columnStart(at), y: top, height, width: Math.max(0.7, columnStart(ends[part]) - columnStart(at) - (part === states.length - 1 ? 1 : 0)),
-    })));
+function bar({ name, from, to, states }, y, height) {
+  const told = states.map(([at, state]) => `${WORD[state]} from step ${at}`).join(", ");
+  const gone = to > last ? "" : `, gone at step ${to}`;
+  const made = svgElement("g", { class: "request", "data-name": name, "data-from": from, "data-to": to },
+    svgElement("title", {}, `${name}: ${told}${gone}`));
+  states.forEach(([at, state], part) => {
+    const end = part + 1 < states.length ? states[part + 1][0] : to;
+    const [x, right] = [columnStart(at), columnStart(end) - (end === to ? 1 : 0)];
+    made.append(svgElement("rect", { class: state, "data-from": at, x, y, width: Math.max(0.7, right - x), height }));
+  });
   if (columnStart(to) - columnStart(from) > 9 * name.length && height > 10) {
-    made.append(svgElement("text", { class: "inside", x: columnStart(from) + 4, y: top + height / 2 + 4 }, name));
+    made.append(svgElement("text", { class: "inside", x: columnStart(from) + 4, y: y + height / 2 + 4 }, name));
   }
   return made;
 }
 
 function fuelLines(fuel, top) {
-  const most = Math.max(1, ...[...fuel.values()].flatMap((noted) => noted.map(([, left]) => left)));
-  const height = (left) => top + 8 + (FUEL_HEIGHT - 8) * (1 - left / most);
-  const lines = [...fuel].map(([tenant, noted]) => {
-    let path = "";
-    noted.forEach(([at, left], part) => {
+  const most = [...fuel.values()].flat().reduce((high, [, left]) => Math.max(high, left), 1);
+  const height = (left) => top + FUEL_HEIGHT * (1 - left / most);
+  const line = ([tenant, noted]) => {
+    const parts = noted.map(([at, left], part) => {
       const end = part + 1 < noted.length ? noted[part + 1][0] : last + 1;
-      path += `${part === 0 ? "M" : "L"}${columnStart(at).toFixed(1)} ${height(left).toFixed(1)}H${columnStart(end).toFixed(1)}`;
+      return `${columnStart(at).toFixed(1)} ${height(left).toFixed(1)}H${columnStart(end).toFixed(1)}`;
     });
-    return svgElement("path", { class: `fuel tenant-${tenant}`, d: path }, svgElement("title", {}, `fuel of tenant ${tenant}`));
-  });
+    return svgElement("path", { class: `fuel tenant-${tenant}`, d: `M${parts.join("L")}` });
+  };
   const axis = svgElement("path", { class: "axis", d: `M${GUTTER} ${height(0)}H${chart.width}` });
-  const tick = (left) => svgElement("text", { class: "tick", x: GUTTER - 6, y: height(left) + 4 }, left >= 10000 ? left.toExponential(0) : `${left}`);
-  return svgElement("g", {}, axis, tick(0), tick(most), ...lines);
+  const short = most < 100000 ? `${most}` : most.toExponential(0).replace("e+", "e");
+  return [axis, tick("0", height(0) + 4), tick(short, height(most) + 6), ...[...fuel].map(line)];
 }
 
-// The same in words, and whose line is whose.
-function sayChart(requests, fuel) {
-  const left = requests.filter(({ to }) => to <= last).length;
-  byId("chart-said").textContent = `${counted(last, "step")}, ${counted(requests.length, "request")} admitted, ${left.toLocaleString("en")} of them gone at the end. Above, a bar for each request; below, the fuel of each tenant. Click to go to a step.`;
+// Whose line is whose, and which state is which.
+function showLegend(fuel) {
+  const entry = (kind, words) => element("li", {}, element("span", { class: kind }), words);
   byId("legend").replaceChildren(
-    ...["free", "waiting", "blocked"].map((state) => element("li", {}, element("span", { class: `swatch ${state}` }), WORD[state])),
-    ...[...fuel.keys()].map((tenant) => element("li", {}, element("span", { class: `stroke tenant-${tenant}` }), `fuel of tenant ${tenant}`)));
+    ...Object.entries(WORD).map(([state, word]) => entry(`swatch ${state}`, word)),
+    ...[...fuel.keys()].map((tenant) => entry(`stroke tenant-${tenant}`, `fuel of tenant ${tenant}`)));
 }
 
-// Puts the cursor on a step; from a step on, the chart is covered.
+// Puts the cursor on a step. From a step on, the chart is covered.
 function markChart(at, hidden) {
   if (!chart.plot) return;
   const wide = columnStart(at + 1) - columnStart(at);
-  chart.cursor.setAttribute("x", columnStart(at) - Math.max(0, (2 - wide) / 2));
+  chart.cursor.setAttribute("x", columnStart(at) - Math.max(0, 2 - wide) / 2);
   chart.cursor.setAttribute("width", Math.max(2, wide));
-  chart.cover.setAttribute("x", hidden > last ? chart.width : columnStart(hidden));
-  chart.cover.setAttribute("width", hidden > last ? 0 : chart.width - columnStart(hidden));
+  const covered = Math.min(hidden, last + 1);
+  chart.cover.setAttribute("x", columnStart(covered));
+  chart.cover.setAttribute("width", chart.width - columnStart(covered));
+  const told = hidden > last ? requestsWords(wholeRun().requests) : "What comes is covered.";
+  byId("chart-said").textContent =
+    `Above, a bar for each request, in the rows of its tenant's places; below, the fuel of each tenant. ${told} Click to go to a step.`;
+}
+
+function requestsWords(requests) {
+  const gone = requests.filter(({ to }) => to <= last).length;
+  return `${counted(requests.length, "request")} admitted, ${gone.toLocaleString("en")} gone at the end.`;
 }
 
 // The step whose column is under a click.

@@ -20,7 +20,8 @@ function lineText(at) {
 
 function lineItem(at) {
   const link = element("a", { href: `#${at}`, tabindex: at === shownStep ? "0" : "-1" }, lineText(at));
-  const item = element("li", { "aria-setsize": last, "aria-posinset": at, class: "line", style: `top: ${(at - 1) * lineHeight}px` }, link);
+  const top = `top: ${(at - 1) * lineHeight}px`;
+  const item = element("li", { class: "line", style: top, "aria-setsize": last, "aria-posinset": at }, link);
   if (at === shownStep) link.setAttribute("aria-current", "step");
   if (at < hiddenFrom && steps[at - 1].difference) item.classList.add("differs");
   return item;

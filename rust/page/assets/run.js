@@ -31,6 +31,7 @@ function callOf(step) {
   const [kind, ...words] = step.call.split(" ");
   const call = { kind, reads: [], writes: [], awaited: 0 };
   if (kind === "open") return { ...call, shares: words.map(Number) };
+  if (kind === "pick") return call;
   call.tenant = Number(words[0]);
   if (kind === "grant") call.amount = Number(words[1]);
   else if (kind === "begin") readParts(call, words.slice(1));

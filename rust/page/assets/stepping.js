@@ -3,22 +3,18 @@
 let shown = 0;
 
 function show(wanted) {
-  const asked = Math.min(Math.max(Math.trunc(wanted) || 1, 1), last);
-  shown = stepFor(asked);
-  const asking = shown >= hiddenStep();
+  shown = stepFor(Math.min(Math.max(Math.trunc(wanted) || 1, 1), last));
   const step = steps[shown - 1];
   const call = callOf(step);
+  const asking = shown >= hiddenStep();
   const before = stateAfter(shown - 1);
   const after = asking ? before : stateAfter(shown);
-  byId("at").value = shown;
-  byId("score").textContent = scoreWords();
-  byId("first").disabled = byId("back").disabled = shown === 1;
-  byId("forward").disabled = byId("last").disabled = shown === last;
-  showCall(step, call, asking);
-  if (asking) showQuestion(shown, before);
-  else showAnswer(step, call, before, after);
   const touched = touchedBy(step, call, before, after, asking);
-  showQueue(after.queue, asking ? 0 : lookedAt(step), touched.name);
+  showControls();
+  showCall(step, call, asking);
+  if (asking) showQuestion(call, before);
+  else showAnswer(step, call, before, after);
+  showQueue(after.queue, asking ? 0 : lookedAt(step), touched.name, asking);
   showTanks(after.tanks, after.queue, call && call.tenant);
   showCounters(after.queue, touched);
   showListing(shown, hiddenStep());
@@ -26,48 +22,68 @@ function show(wanted) {
   keepAddress();
 }
 
+function showControls() {
+  byId("at").value = shown;
+  byId("first").disabled = shown === 1;
+  byId("back").disabled = shown === 1;
+  byId("forward").disabled = shown === last;
+  byId("last").disabled = shown === last;
+  byId("score").textContent = scoreWords();
+  byId("run").classList.toggle("quiz", quiz.on);
+}
+
 function showCall(step, call, asking) {
-  const words = call ? callWords(call) : "There is no record here.";
+  const words = call ? callWords(call) : "The file has no call here.";
+  const { answer, burnt, left } = fieldsOf(step);
+  const verdict = quiz.on && !asking && shown === quiz.known ? quiz.verdict : "";
   byId("call").textContent = `Step ${shown}: ${words}`;
-  byId("typed").textContent = step.call && step.call.length > 200 ? `${step.call.slice(0, 200)} ...` : step.call || "";
+  byId("typed").textContent = typedWords(step.call || "");
   byId("question").hidden = !asking;
   byId("told").hidden = asking;
   byId("difference").hidden = asking || !step.difference;
   byId("difference").textContent = step.difference ? `This line differs: ${step.difference}` : "";
-  byId("verdict").hidden = asking || !quiz.on || quiz.verdictAt !== shown;
-  byId("verdict").textContent = quiz.verdict;
-  const { answer, burnt, left } = fieldsOf(step);
-  const outcome = asking ? "What does it answer, and what does it burn?" : `Answer ${answer}. Burnt ${burnt}. Left ${left}.`;
-  byId("announced").textContent = `Step ${shown} of ${last}. ${words} ${outcome}`;
+  byId("verdict").hidden = verdict === "";
+  byId("verdict").textContent = verdict;
+  byId("announced").textContent = `Step ${shown} of ${last}. ${words} ${verdict} ${
+    asking ? "What does it answer, and what does it burn?" : `Answer ${answer}, burnt ${burnt}, left ${left}.`}`;
+}
+
+const TYPED_AT_MOST = 200;
+
+function typedWords(call) {
+  return call.length > TYPED_AT_MOST ? `${call.slice(0, TYPED_AT_MOST)} ...` : call;
 }
 
 function showAnswer(step, call, before, after) {
   const { answer, burnt, left } = fieldsOf(step);
-  byId("answer").textContent = answer || "(none)";
-  byId("burnt").textContent = burnt || "(none)";
-  byId("left").textContent = left || "(none)";
+  byId("answer").textContent = answer || "no answer";
+  byId("burnt").textContent = burnt || "?";
+  byId("left").textContent = left || "?";
   byId("meaning").textContent = meaningOf(step, call, before, after);
   const { parts, besides } = priceWords(step, call, before, after);
-  const terms = parts.map(({ units }) => units);
-  const price = [];
-  if (terms.length > 1) price.push(element("p", { class: "sum" }, `${terms.join(" + ")} = ${priceOf(step)}`));
-  if (parts.length > 0) price.push(element("ol", {}, ...parts.map(({ units, what }) => element("li", {}, element("b", {}, `${units}`), ` ${what}`))));
-  if (besides) price.push(element("p", {}, besides));
-  byId("price").replaceChildren(...price, ...disagreement(step, call, after));
+  const sum = `${parts.map(({ units }) => units).join(" + ")} = ${priceOf(step)}`;
+  const paid = parts.map(({ units, what }) => element("li", {}, element("b", {}, `${units}`), ` ${what}`));
+  byId("price").replaceChildren(
+    ...(parts.length > 1 ? [element("p", { class: "sum" }, sum)] : []),
+    element("ol", {}, ...paid),
+    ...(besides ? [element("p", {}, besides)] : []),
+    ...disagreements(step, call, after).map((words) => element("p", { class: "different" }, words)));
   byId("said").replaceChildren(...(step.said || []).map((words) => element("p", {}, words)));
 }
 
 // What the page shows is held to the line: the sum to the units burnt, the tank to the fuel left.
-function disagreement(step, call, after) {
+function disagreements(step, call, after) {
   const { burnt, left } = fieldsOf(step);
   const tank = call && after.tanks.find(({ tenant }) => tenant === call.tenant);
   const wrong = [];
-  if (burnt !== `${priceOf(step)}`) wrong.push(`The sum is ${priceOf(step)}, and the listing says ${burnt}.`);
-  if (tank && left !== `${tank.granted - tank.burnt}`) wrong.push(`The tank has ${tank.granted - tank.burnt}, and the listing says ${left}.`);
-  return wrong.map((words) => element("p", { class: "different" }, words));
+  if (burnt !== `${priceOf(step)}`) wrong.push(`The sum is ${priceOf(step)}, and the listing has ${burnt}.`);
+  if (tank && left !== `${tank.granted - tank.burnt}`) {
+    wrong.push(`The tank has ${tank.granted - tank.burnt}, and the listing has ${left}.`);
+  }
+  return wrong;
 }
 
-// The entry that a step is about, with its records: that named by the answer or by the call, there after it or before it.
+// The entry that a step is about, with its records: that which the answer or the call names, after the call or before it.
 function touchedBy(step, call, before, after, asking) {
   const name = (!asking && nameIn(fieldsOf(step).answer)) || (call && call.name);
   const entry = [...after.queue, ...before.queue].find((known) => known.name === name);
@@ -89,26 +105,20 @@ function keepAddress() {
   }, 150);
 }
 
-function stepInAddress() {
+// The step that the address names is shown, and brought into sight: a link to it may stand far from the run.
+function followAddress() {
   const found = /^#(\d+)$/.exec(location.hash);
-  return found ? Number(found[1]) : null;
+  if (!found) return;
+  step(Number(found[1]));
+  const { top, bottom } = byId("call").getBoundingClientRect();
+  if (top < 0 || bottom > window.innerHeight) byId("run").scrollIntoView();
 }
 
-const KEYS = { ArrowLeft: () => shown - 1, ArrowRight: () => shown + 1, Home: () => 1, End: () => last };
-const LIST_KEYS = { ArrowUp: () => shown - 1, ArrowDown: () => shown + 1 };
-
-// Keys that a field, a list of choices or the browser takes for itself are left to it.
-function onKey(event) {
-  const fields = event.target.closest("input:not([type=checkbox]), select, textarea");
-  if (fields || event.altKey || event.ctrlKey || event.metaKey || event.shiftKey) return;
-  const target = KEYS[event.key] || (lines.contains(event.target) && LIST_KEYS[event.key]);
-  if (!target) return;
-  event.preventDefault();
-  show(target());
-}
-
-function chosenIn(form) {
-  return { answer: form.elements.answer.value, units: `${Number(form.elements.units.value)}` };
+// Shows a step; where it is asked about, the first choice is ready to be taken by the keyboard.
+function step(wanted) {
+  show(wanted);
+  const choice = byId("question").querySelector("input");
+  if (!byId("question").hidden && document.activeElement !== byId("at")) choice.focus({ preventScroll: true });
 }
 
 function answered(chosen) {
@@ -117,52 +127,79 @@ function answered(chosen) {
   byId(shown === last ? "call" : "forward").focus();
 }
 
-function begin() {
-  byId("count").textContent = last.toLocaleString("en");
-  byId("at").max = last;
-  const different = [run, ...steps].filter(({ difference }) => difference).length;
-  if (different > 0) {
-    byId("different").hidden = false;
-    byId("different").textContent = `The second program differs from the proved listing in ${counted(different, "line")}, in red below. ${run.difference || ""}`;
-  }
-  if (last === 0) {
-    byId("empty").hidden = false;
-    byId("columns").hidden = byId("chart").hidden = true;
-    for (const control of document.querySelectorAll(".bar button, .bar input")) control.disabled = true;
-    return;
-  }
-  byId("first").addEventListener("click", () => show(1));
-  byId("back").addEventListener("click", () => show(shown - 1));
-  byId("forward").addEventListener("click", () => show(shown + 1));
-  byId("last").addEventListener("click", () => show(last));
-  byId("at").addEventListener("change", () => show(Number(byId("at").value)));
-  byId("drawing").addEventListener("click", (event) => show(stepUnder(event)));
-  byId("ask").addEventListener("change", () => {
-    if (byId("ask").checked) startQuiz(shown);
-    else stopQuiz();
-    show(shown);
-  });
+const KEYS = { ArrowLeft: () => shown - 1, ArrowRight: () => shown + 1, Home: () => 1, End: () => last };
+const LISTING_KEYS = { ArrowUp: KEYS.ArrowLeft, ArrowDown: KEYS.ArrowRight };
+
+// Keys that a field or the browser takes for itself are left to it.
+function onKey(event) {
+  const taken = event.target.closest("input:not([type=checkbox])");
+  if (taken || event.altKey || event.ctrlKey || event.metaKey || event.shiftKey) return;
+  const wanted = KEYS[event.key] || (lines.contains(event.target) && LISTING_KEYS[event.key]);
+  if (!wanted) return;
+  event.preventDefault();
+  step(wanted());
+}
+
+function onAsk() {
+  if (byId("ask").checked) startQuiz(shown);
+  else quiz.on = false;
+  show(shown);
+}
+
+function listen() {
+  byId("first").addEventListener("click", () => step(1));
+  byId("back").addEventListener("click", () => step(shown - 1));
+  byId("forward").addEventListener("click", () => step(shown + 1));
+  byId("last").addEventListener("click", () => step(last));
+  byId("at").addEventListener("change", () => step(Number(byId("at").value)));
+  byId("drawing").addEventListener("click", (event) => step(stepUnder(event)));
+  byId("ask").addEventListener("change", onAsk);
   byId("question").addEventListener("submit", (event) => {
     event.preventDefault();
-    answered(chosenIn(byId("question")));
+    const { answer, units } = byId("question").elements;
+    answered({ answer: answer.value, units: `${Number(units.value)}` });
   });
   byId("question").addEventListener("click", (event) => {
     if (event.target.id === "give-up") answered(null);
   });
   document.addEventListener("keydown", onKey);
-  window.addEventListener("hashchange", () => {
-    if (stepInAddress() !== null && stepInAddress() !== shown) show(stepInAddress());
-  });
-  show(stepInAddress() || 1);
+  window.addEventListener("hashchange", followAddress);
+}
+
+// What has a place of its own is laid out again where that place has changed.
+function layOut() {
+  drawConflicts();
+  showListing(shown, hiddenStep());
+  if (byId("drawing").clientWidth !== chart.width) drawChart();
+  markChart(shown, hiddenStep());
+}
+
+function sayDifferent() {
+  const different = [run, ...steps].filter(({ difference }) => difference).length;
+  byId("different").hidden = different === 0;
+  byId("different").textContent =
+    `The second program differs from the proved listing in ${counted(different, "line")}, in red below. ${run.difference || ""}`;
+}
+
+function begin() {
+  byId("count").textContent = last.toLocaleString("en");
+  byId("at").max = last;
+  byId("ask").checked = false;
+  sayDifferent();
+  if (last === 0) {
+    byId("empty").hidden = false;
+    for (const part of ["columns", "chart", "bar"]) byId(part).hidden = true;
+    return;
+  }
+  listen();
+  show(1);
+  followAddress();
+  performance.mark("first view");
+  // The chart follows the whole run, which the first view need not wait for.
   setTimeout(() => {
-    drawChart();
-    markChart(shown, hiddenStep());
-    new ResizeObserver(() => {
-      drawConflicts();
-      showListing(shown, hiddenStep());
-      if (byId("drawing").clientWidth !== chart.width) drawChart();
-      markChart(shown, hiddenStep());
-    }).observe(byId("run"));
+    layOut();
+    new ResizeObserver(layOut).observe(byId("run"));
+    performance.mark("chart");
   });
 }
 

@@ -108,8 +108,8 @@ function meaningOf(step, call, before, after) {
     case "cancel": return `${call.name} was Blocked. It leaves the queue, and no fuel is given back.`;
     case "evict": return `${call.name} leaves the queue, whatever its state was. Nobody is promoted by that.`;
     case "recheck": return recheckWords(call, answer, entry, after);
-    case "scan": return entry ? `${scanWords(call, entry, before)} ${becameWords(entry)}` : nothingWords(call, after.queue);
-    case "pick": return entry ? `${entry.name} is the front: nothing is ahead of it, so it may run, whatever the counters say. ${becameWords(entry)}` : pickNothing(after.queue);
+    case "scan": return entry ? foundWords(call, entry) : nothingWords(call, after.queue);
+    case "pick": return entry ? frontWords(entry) : pickNothing(after.queue);
     default: return entry ? deliverWords(entry) : "";
   }
 }
@@ -121,10 +121,10 @@ function nameIn(answer) {
 }
 
 function refusedWords(kind, number) {
-  const row_ = row(kind, number);
-  if (kind === "file") return `The file is not read any further. Refusal ${number}: ${row_}.`;
-  const rest = number === 14 ? "The state is a fresh one in which every share is 0." : "Counters, queue, states and places stay as they were.";
-  return `Refusal ${number}: ${row_}. ${rest}`;
+  const told = `Refusal ${number}: ${row(kind, number)}.`;
+  if (kind === "file") return `The file is not read any further. ${told}`;
+  if (kind === "open") return `${told} The state is a fresh one in which every share is 0.`;
+  return `${told} Counters, queue, states and places stay as they were.`;
 }
 
 function becameWords(entry) {
@@ -137,24 +137,32 @@ function beginWords(entry, queue) {
   if (entry.state !== "blocked") return `${joined} It conflicts with nothing ahead. ${becameWords(entry)}`;
   const conflicts = conflictsOf(entry, queue.slice(0, place));
   const lowest = Math.min(...conflicts.flatMap(({ records }) => records));
-  return `${joined} It is Blocked, since ahead of it stands what it conflicts with: ${heldUpBy(conflicts)}. The lowest of these records, ${lowest}, is told behind the @.`;
+  const clash = `It is Blocked: it conflicts with ${heldUpBy(conflicts)}.`;
+  return `${joined} ${clash} The lowest of these records, ${lowest}, stands behind the @.`;
 }
 
 // A Recheck goes by the counters, which count the entries behind as well.
 function recheckWords(call, answer, entry, after) {
   if (answer !== "still") {
-    return `No other entry counts on a record of ${call.name} in a way that conflicts: it is promoted. ${entry ? becameWords(entry) : ""}`;
+    const alone = `By the counters nobody else wants the records of ${call.name} in a way that conflicts: it is promoted.`;
+    return entry ? `${alone} ${becameWords(entry)}` : alone;
   }
   const asked = after.queue.find(({ name }) => name === call.name);
   if (!asked) return "";
   const ahead = conflictsOf(asked, after.queue.slice(0, after.queue.indexOf(asked)));
   const others = conflictsOf(asked, after.queue.filter((other) => other !== asked));
   const behind = ahead.length === 0 ? " Nothing ahead conflicts: a search would find it." : "";
-  return `${call.name} stays Blocked: the counters count ${heldUpBy(others)}, be it ahead or behind.${behind}`;
+  return `${call.name} stays Blocked: by the counters, others want its records too: ${heldUpBy(others)}.${behind}`;
 }
 
-function scanWords(call, entry, before) {
-  return `${entry.name}, at place ${before.queue.findIndex(({ name }) => name === entry.name) + 1}, is the first Blocked request of tenant ${call.tenant} that conflicts with nothing ahead of it.`;
+function foundWords(call, entry) {
+  const found = `${entry.name} is tenant ${call.tenant}'s first Blocked request that conflicts with nothing ahead of it.`;
+  return `${found} ${becameWords(entry)}`;
+}
+
+function frontWords(entry) {
+  const front = `${entry.name} is the front: nothing is ahead of it, so it may run, whatever the counters say.`;
+  return `${front} ${becameWords(entry)}`;
 }
 
 function nothingWords(call, queue) {
@@ -175,20 +183,20 @@ function deliverWords(entry) {
 
 // The price as lines, each of units and what they were paid for, and what is said of it besides.
 function priceWords(step, call, before, after) {
-  const parts = billOf(step, before).map((part) => ({ units: part.units, what: partWords(part, step, call) }));
+  const parts = billOf(step, before).map((part) => ({ units: part.units, what: partWords(part, step, call, before) }));
   return { parts, besides: besideWords(step, call, before, after, parts) };
 }
 
-function partWords({ word, entry }, step, call) {
+function partWords({ word, entry }, step, call, before) {
   const { answer } = fieldsOf(step);
-  const one = (request) => `1 and ${counted(request.reads.length + request.writes.length, "record")}`;
+  const one = ({ reads, writes }) => `1 and ${counted(reads.length + writes.length, "record")}`;
   switch (word) {
-    case "now": return step.joins ? `now: ${one(step.joins)}` : "now";
-    case "release": return step.joins ? `for the release, paid beforehand: ${one(step.joins)}` : "for the release";
-    case "recheck": return `for the recheck of ${call.name}: 1 and 1 for each of its records`;
+    case "now": return `now: ${one(step.joins)}`;
+    case "release": return `for the release, paid beforehand: ${one(step.joins)}`;
+    case "recheck": return `for the recheck of ${call.name}: ${one(before.queue.find(({ name }) => name === call.name))}`;
     case "cancel": return "for the cancel";
     case "search": return "for the search itself";
-    case "look": return `for the look at ${entry.name}: ${one(entry)}${entry.name === nameIn(answer) ? ", which is promoted" : ""}`;
+    case "look": return `for the look at ${entry.name}: ${one(entry)}${entry.name === nameIn(answer) ? ", promoted" : ""}`;
     default: return `by the table: refusal ${refusalOf(answer)}, ${row(call.kind, refusalOf(answer))}`;
   }
 }

@@ -56,9 +56,10 @@ impl Lesson {
                 (block, None) => lesson.intro.push(block),
             }
         }
+        drop_link(&mut lesson.intro, INDEX)?;
         for (at, chapter) in lesson.chapters.iter_mut().enumerate() {
             chapter.find_example(at + 1)?;
-            chapter.drop_own_link()?;
+            drop_link(&mut chapter.text, &chapter.file)?;
         }
         Ok(lesson)
     }
@@ -152,17 +153,17 @@ impl Chapter {
         self.file = format!("{}-{}.html", number, self.example);
         Ok(())
     }
+}
 
-    /// The lesson's text leads to the page of each chapter, by a paragraph that
-    /// says nothing to whoever is there.
-    fn drop_own_link(&mut self) -> Result<(), String> {
-        let link = format!("]({}{})", FOLDER, self.file);
-        let leads = |block: &Block| matches!(block, Block::Paragraph(text) if text.contains(&link));
-        let at = self.text.iter().position(leads);
-        let at = at.ok_or_else(|| format!("{}: no link to {}", self.title, self.file))?;
-        self.text.remove(at);
-        Ok(())
-    }
+/// The lesson's text leads to each page, by a paragraph that says nothing to
+/// whoever is there.
+fn drop_link(text: &mut Vec<Block>, file: &str) -> Result<(), String> {
+    let link = format!("]({}{})", FOLDER, file);
+    let leads = |block: &Block| matches!(block, Block::Paragraph(text) if text.contains(&link));
+    let at = text.iter().position(leads);
+    let at = at.ok_or_else(|| format!("the lesson has no link to {}{}", FOLDER, file))?;
+    text.remove(at);
+    Ok(())
 }
 
 fn tells(block: &Block) -> bool {
