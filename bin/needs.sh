@@ -38,3 +38,13 @@ needs_x86_64() {
     dpkg --add-architecture amd64
     package "${missing[@]}"
 }
+
+# needs_browser: Debian's chromium with its driver, and the library by which its python drives it; $python is that one
+needs_browser() {
+    local name missing=()
+    for name in chromium chromium-driver python3-selenium; do
+        [ "$(dpkg-query -W -f '${db:Status-Status}' "$name" 2>/dev/null)" = installed ] || missing+=("$name")
+    done
+    [ "${#missing[@]}" -eq 0 ] || package "${missing[@]}"
+    python=/usr/bin/python3
+}

@@ -61,7 +61,7 @@ function why(entry, place) {
   const ahead = conflictsOf(entry, shownQueue.slice(0, place));
   if (ahead.length > NAMED_AT_MOST) {
     return element("details", { class: "why" },
-      element("summary", {}, `waits for ${counted(ahead.length, "request")} ahead`), heldUpBy(ahead));
+      element("summary", {}, `waits for ${counted(ahead.length, "request")} ahead:`), ` ${heldUpBy(ahead)}`);
   }
   if (ahead.length > 0) return element("p", { class: "why" }, `waits for ${heldUpBy(ahead)}`);
   const who = place === 0 ? "a Pick or a search" : "a search";

@@ -199,7 +199,7 @@ function begin() {
   setTimeout(() => {
     layOut();
     new ResizeObserver(layOut).observe(byId("run"));
-    performance.mark("chart");
+    performance.mark("drawn");
   });
 }
 

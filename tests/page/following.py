@@ -1,0 +1,106 @@
+"""A page's step as the second program's view has it, and its price by the rules that are told in words."""
+
+import re
+
+from listings import fields, squeezed
+
+CARD_STATES = {"Free": "free", "Waiting": "waiting", "Blocked": "blocked"}
+
+
+def records(text):
+    """The records of `reads 3 5`."""
+    return [int(word) for word in text.split()[1:]]
+
+
+def clashes(one, other):
+    """The records on which two cards conflict: written by one of them, and read or written by the other."""
+    own, theirs = ({"reads": records(card["reads"]), "writes": records(card["writes"])} for card in (one, other))
+    written = set(own["writes"]) & set(theirs["writes"] + theirs["reads"])
+    return sorted(written | set(own["reads"]) & set(theirs["writes"]))
+
+
+def conflicts_ahead(cards):
+    """Of each Blocked card, by name: whom ahead it conflicts with, and on which records."""
+    found = {}
+    for place, card in enumerate(cards):
+        if card["state"] == "Blocked":
+            ahead = [(other["name"], clashes(card, other)) for other in cards[:place]]
+            found[card["name"]] = [(name, on) for name, on in ahead if on]
+    return found
+
+
+def view(shown):
+    """The rows of `eventshow` for what a page shows."""
+    ahead = conflicts_ahead(shown["cards"])
+    rows = [card_row(card, ahead) for card in shown["cards"]] or ["queue empty"]
+    if shown["cx"]:
+        rows.append("Cx " + " ".join(shown["cx"]))
+    if shown["cs"]:
+        rows.append("Cs " + " ".join(shown["cs"]))
+    # A tank without a share that has run dry is still on the page.
+    tanks = [(tank["tenant"], tank_numbers(tank)["left"], tank_places(tank)) for tank in shown["tanks"]]
+    tanks = [(tenant, left, places) for tenant, left, places in tanks if left > 0 or places[1] > 0]
+    if tanks:
+        fuel = " ".join(f"{tenant}={left}" for tenant, left, _ in tanks)
+        places = " ".join(f"{tenant}={held}/{share}" for tenant, _, (held, share) in tanks)
+        rows.append(f"fuel {fuel}, places {places}")
+    return rows
+
+
+def card_row(card, ahead):
+    due = re.fullmatch(r"answers due: (\d+) of (\d+)", card["due"])
+    awaited = f"awaited {due[2]} due {due[1]}" if due else ""
+    waits = ""
+    if card["name"] in ahead:
+        lowest = min((record for _, on in ahead[card["name"]] for record in on), default=None)
+        waits = "nothing ahead conflicts" if lowest is None else f"waits for record {lowest}"
+    front = "front" if card["place"] == "front" else ""
+    return squeezed(" ".join([front, card["name"], CARD_STATES[card["state"]], awaited, card["reads"], card["writes"], waits]))
+
+
+def tank_numbers(tank):
+    found = re.fullmatch(r"granted ([\d,]+) burnt ([\d,]+) left ([\d,]+)", tank["numbers"])
+    granted, burnt, left = (int(number.replace(",", "")) for number in found.groups())
+    return {"granted": granted, "burnt": burnt, "left": left}
+
+
+def tank_places(tank):
+    found = re.fullmatch(r"places (\d+) of (\d+)", tank["places"])
+    return int(found[1]), int(found[2])
+
+
+def size(card):
+    return len(records(card["reads"])) + len(records(card["writes"]))
+
+
+def price(shown, before, rows):
+    """The parts that a step's price must have, as units and words that tell what for; None where the answer is a refusal's row."""
+    line = fields(shown["line"])
+    refused = re.fullmatch(r"refused:(\d+)", line.answer)
+    cards = {card["name"]: card for card in before["cards"]}
+    if line.call == "scan" and (not refused or refused[1] == "9"):
+        return search_price(line, before["cards"])
+    if refused:
+        if line.call == "file":
+            return []
+        meaning, burns = rows[(line.call, refused[1])]
+        return [(int(burns), f"refusal {refused[1]}, {meaning}")]
+    if line.call == "begin":
+        each = 1 + size(shown["cards"][-1])
+        return [(each, "now"), (each, "release")]
+    if line.call == "recheck":
+        name = ".".join(shown["typed"].split()[1:])
+        return [(1 + size(cards[name]), f"recheck of {name}")]
+    return [(1, "cancel")] if line.call == "cancel" else []
+
+
+def search_price(line, queue):
+    """1, and 1 + n for each entry from the front, up to the one that is promoted, or as far as the units went."""
+    parts = [(1, "the search itself")]
+    for card in queue:
+        if line.answer.startswith("refused") and sum(units for units, _ in parts) == int(line.burnt):
+            break
+        parts.append((1 + size(card), f"look at {card['name']}:"))
+        if line.answer.endswith(f":{card['name']}"):
+            break
+    return parts
