@@ -32,6 +32,32 @@ function stepFor(wanted) {
   return Math.min(wanted, quiz.known + 1);
 }
 
+// The parts of a chapter's text that tell what comes, each with the step after which it may be read: excerpts of the listing, and
+// what happens. As long as one is hidden, a word stands in its place.
+const tellings = [];
+
+function findTellings() {
+  for (const part of document.querySelectorAll(".prose:not(.told) pre")) {
+    const told = [...part.querySelectorAll("a")].map(({ hash }) => Number(hash.slice(1)));
+    if (told.length > 0) addTelling(part, Math.max(...told));
+  }
+  for (const part of document.querySelectorAll(".told")) addTelling(part, last);
+}
+
+function addTelling(part, step) {
+  const word = element("p", { class: "untold" }, `Told after step ${step}.`);
+  part.before(word);
+  tellings.push({ part, step, word });
+}
+
+function hideTellings() {
+  for (const { part, step, word } of tellings) {
+    const untold = step >= hiddenStep();
+    part.hidden = untold;
+    word.hidden = !untold;
+  }
+}
+
 // What a call may answer, by the call and the queue before it alone.
 function choices(call, before) {
   const [free, waiting, blocked] = Object.entries(WORD);

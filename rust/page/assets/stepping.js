@@ -30,6 +30,7 @@ function showControls() {
   byId("last").disabled = shown === last;
   byId("score").textContent = scoreWords();
   byId("run").classList.toggle("quiz", quiz.on);
+  hideTellings();
 }
 
 function showCall(step, call, asking) {
@@ -191,6 +192,7 @@ function begin() {
     for (const part of ["columns", "chart", "bar"]) byId(part).hidden = true;
     return;
   }
+  findTellings();
   listen();
   show(1);
   followAddress();

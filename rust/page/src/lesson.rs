@@ -79,9 +79,9 @@ impl Lesson {
                 "{}<h1>{}</h1>\n{}",
                 ways,
                 inline(&chapter.title, &names),
-                prose(first, &names)
+                prose("prose", first, &names)
             ),
-            after: &format!("{}{}", prose(rest, &names), ways),
+            after: &format!("{}{}", prose("prose told", rest, &names), ways),
             run: Some((&format!("{}{}", chapter.example, TEXT), run)),
         };
         page.html()
@@ -117,7 +117,7 @@ impl Lesson {
             before: &format!(
                 "<h1>{}</h1>\n{}<nav aria-label=\"Chapters\">\n<ol class=\"chapters\">\n{}</ol>\n</nav>\n",
                 inline(&self.title, &names),
-                prose(&self.intro, &names),
+                prose("prose", &self.intro, &names),
                 entries
             ),
             after: "",
@@ -170,9 +170,10 @@ fn tells(block: &Block) -> bool {
     matches!(block, Block::Paragraph(text) if text.starts_with(TOLD_AFTER))
 }
 
-fn prose(blocks: &[Block], names: &OnPage) -> String {
+/// Text of the lesson; of the class `told` is what the quiz must not tell.
+fn prose(class: &str, blocks: &[Block], names: &OnPage) -> String {
     let text: String = blocks.iter().map(|block| html(block, names)).collect();
-    format!("<div class=\"prose\">\n{}</div>\n", text)
+    format!("<div class=\"{}\">\n{}</div>\n", class, text)
 }
 
 /// On a page: links go from its folder, and a line of the listing that the text
