@@ -68,7 +68,7 @@ function bar({ name, from, to, states }, y, height) {
     const [x, right] = [columnStart(at), columnStart(end) - (end === to ? 1 : 0)];
     made.append(svgElement("rect", { class: state, "data-from": at, x, y, width: Math.max(0.7, right - x), height }));
   });
-  if (columnStart(to) - columnStart(from) > 9 * name.length && height > 10) {
+  if (columnStart(to) - columnStart(from) > 11 * name.length && height > 10) {
     made.append(svgElement("text", { class: "inside", x: columnStart(from) + 4, y: y + height / 2 + 4 }, name));
   }
   return made;
@@ -103,9 +103,10 @@ function markChart(at, hidden) {
   const wide = columnStart(at + 1) - columnStart(at);
   chart.cursor.setAttribute("x", columnStart(at) - Math.max(0, 2 - wide) / 2);
   chart.cursor.setAttribute("width", Math.max(2, wide));
-  const covered = Math.min(hidden, last + 1);
-  chart.cover.setAttribute("x", columnStart(covered));
-  chart.cover.setAttribute("width", chart.width - columnStart(covered));
+  // At the border a line already turns to where it goes.
+  const covered = hidden > last ? chart.width : columnStart(hidden) - 2;
+  chart.cover.setAttribute("x", covered);
+  chart.cover.setAttribute("width", chart.width - covered);
   const told = hidden > last ? requestsWords(wholeRun().requests) : "What comes is covered.";
   byId("chart-said").textContent =
     `Above, a bar for each request, in the rows of its tenant's places; below, the fuel of each tenant. ${told} Click to go to a step.`;

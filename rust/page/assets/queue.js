@@ -87,6 +87,7 @@ function drawConflicts() {
   const reach = Math.min(34, (width - 16) / 0.75 / widest);
   const drawn = found.map((conflict) => curve(conflict, width, 14 + reach * (conflict.from - conflict.to)));
   const labels = found.length > LABELS_AT_MOST ? [] : drawn.map(({ label }) => label);
+  conflictLines.classList.toggle("many", found.length > LABELS_AT_MOST);
   conflictLines.replaceChildren(...drawn.flatMap(({ line, head }) => [line, head]), ...labels);
 }
 

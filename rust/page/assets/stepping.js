@@ -60,7 +60,8 @@ function showAnswer(step, call, before, after) {
   byId("answer").textContent = answer || "no answer";
   byId("burnt").textContent = burnt || "?";
   byId("left").textContent = left || "?";
-  byId("meaning").textContent = meaningOf(step, call, before, after);
+  // Where the answer is not the second program's, its state does not explain it.
+  byId("meaning").textContent = step.difference ? "" : meaningOf(step, call, before, after);
   const { parts, besides } = priceWords(step, call, before, after);
   const sum = `${parts.map(({ units }) => units).join(" + ")} = ${priceOf(step)}`;
   const paid = parts.map(({ units, what }) => element("li", {}, element("b", {}, `${units}`), ` ${what}`));

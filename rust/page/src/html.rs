@@ -56,7 +56,7 @@ pub fn page(name: &str, run: &Run) -> String {
     let title = format!("The run of {}", name);
     let page = Page {
         title: &title,
-        before: "",
+        before: "<h1>Damsonpouch, step by step</h1>\n",
         after: "",
         run: Some((name, run)),
     };
