@@ -73,16 +73,15 @@ impl Lesson {
         let told = chapter.text.iter().position(tells);
         let (first, rest) = chapter.text.split_at(told.unwrap_or(chapter.text.len()));
         let ways = self.ways(at);
+        let title = inline(&chapter.title, &names);
+        let first = prose("prose", first, &names);
+        let rest = prose("prose told", rest, &names);
+        let name = format!("{}{}", chapter.example, TEXT);
         let page = Page {
             title: &chapter.title,
-            before: &format!(
-                "{}<h1>{}</h1>\n{}",
-                ways,
-                inline(&chapter.title, &names),
-                prose("prose", first, &names)
-            ),
-            after: &format!("{}{}", prose("prose told", rest, &names), ways),
-            run: Some((&format!("{}{}", chapter.example, TEXT), run)),
+            before: &format!("{}<h1>{}</h1>\n{}", ways, title, first),
+            after: &(rest + &ways),
+            run: Some((&name, run)),
         };
         page.html()
     }
