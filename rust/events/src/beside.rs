@@ -17,10 +17,7 @@ pub fn beside<'a>(proved: &'a [u8], own: &'a [u8]) -> impl Iterator<Item = Line<
             proved: proved.next(),
             own: own.next(),
         };
-        if line.proved.or(line.own).is_none() {
-            return None;
-        }
-        Some(line)
+        line.proved.or(line.own).map(|_| line)
     })
 }
 

@@ -237,17 +237,21 @@ impl OnPage {
     }
 }
 
-/// Parts a text behind the first "line " or "lines " that a number follows.
+/// The words before a number that is a step, by a blank or at the end of a line.
+const LINE_WORDS: [&str; 4] = ["line ", "lines ", "line\n", "lines\n"];
+
+/// Parts a text behind the first of these words, large or small, that a number
+/// follows.
 fn split_at_line(text: &str) -> Option<(&str, &str)> {
-    let ends = text.match_indices("ine").map(|(at, word)| at + word.len());
-    let numbers = ends.filter_map(|end| {
-        let rest = text[end..].strip_prefix('s').unwrap_or(&text[end..]);
-        let number = rest.strip_prefix([' ', '\n'])?;
-        Some(text.len() - number.len())
+    let small = text.to_ascii_lowercase();
+    let found = LINE_WORDS.iter().flat_map(|word| small.match_indices(word));
+    let numbers = found.filter_map(|(at, word)| {
+        let end = at + word.len();
+        let is_word = !small[..at].ends_with(char::is_alphabetic);
+        let is_number = small[end..].starts_with(|letter: char| letter.is_ascii_digit());
+        Some(end).filter(|_| is_word && is_number)
     });
-    let is_number = |at: &usize| text[*at..].starts_with(|letter: char| letter.is_ascii_digit());
-    let at = numbers.filter(is_number).next()?;
-    Some(text.split_at(at))
+    numbers.min().map(|at| text.split_at(at))
 }
 
 fn step_link(number: &str, words: &str) -> String {

@@ -72,8 +72,7 @@ pub fn html(block: &Block, names: &impl Names) -> String {
 
 /// A run of text: `code`, **bold** and [links](target) in it.
 pub fn inline(text: &str, names: &impl Names) -> String {
-    let marked = marked(text);
-    match marked {
+    match marked(text) {
         Some((before, Marked::Code(code), after)) => format!(
             "{}<code>{}</code>{}",
             names.plain(before),
@@ -104,24 +103,28 @@ enum Marked<'a> {
 }
 
 /// The first thing in a text that is marked, with what stands before and behind
-/// it.
+/// it. A mark that has no end is plain text.
 fn marked(text: &str) -> Option<(&str, Marked<'_>, &str)> {
-    let at = text.find(|letter| matches!(letter, '`' | '*' | '['))?;
-    let (before, rest) = text.split_at(at);
-    let found = if let Some(rest) = rest.strip_prefix('`') {
-        let code = rest.split_once('`');
-        code.map(|(code, after)| (Marked::Code(code), after))
-    } else if let Some(rest) = rest.strip_prefix("**") {
-        let bold = rest.split_once("**");
-        bold.map(|(bold, after)| (Marked::Bold(bold), after))
-    } else {
-        link(rest)
-    };
-    found.map(|(marked, after)| (before, marked, after))
+    let mut marks = text.match_indices(['`', '*', '[']);
+    marks.find_map(|(at, _)| {
+        let (before, rest) = text.split_at(at);
+        let (found, after) = code(rest).or_else(|| bold(rest)).or_else(|| link(rest))?;
+        Some((before, found, after))
+    })
+}
+
+fn code(text: &str) -> Option<(Marked<'_>, &str)> {
+    let (code, after) = text.strip_prefix('`')?.split_once('`')?;
+    Some((Marked::Code(code), after))
+}
+
+fn bold(text: &str) -> Option<(Marked<'_>, &str)> {
+    let (bold, after) = text.strip_prefix("**")?.split_once("**")?;
+    Some((Marked::Bold(bold), after))
 }
 
 fn link(text: &str) -> Option<(Marked<'_>, &str)> {
-    let (words, rest) = text.strip_prefix('[')?.split_once("](")?;
-    let (target, after) = rest.split_once(')')?;
+    let (words, rest) = text.strip_prefix('[')?.split_once(']')?;
+    let (target, after) = rest.strip_prefix('(')?.split_once(')')?;
     Some((Marked::Link(words, target), after))
 }

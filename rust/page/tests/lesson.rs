@@ -12,7 +12,7 @@ use std::path::Path;
 const TEXT: &str = "\
 # A lesson
 
-Read <this>, **not `that`**: [CALLS](CALLS.md).
+Read <this>, 2 * 3 [not], **not `that`**: [CALLS](CALLS.md), `**`, in line 1.
 
 [As pages](lesson/index.html)
 
@@ -25,7 +25,8 @@ Read <this>, **not `that`**: [CALLS](CALLS.md).
 First line 2 and then
 lines 1 to 2, and line 3.
 
-**What happens.** On lines 1, 2 and 9:
+**What happens.** On lines 1, 2 and 9, fine 1, in the line
+2 of it, and deadline 2:
 
     2 pick nothing 0 -
         queue empty
@@ -101,8 +102,9 @@ fn a_chapter_has_its_run_before_what_happens() {
         at(&lines, "<h2 id=\"run-name\">The run of <code>one.txt</code></h2>"),
         at(
             &lines,
-            "<p><strong>What happens.</strong> On lines <a href=\"#1\">1</a>, <a href=\"#2\">2</a> and 9:</p>",
+            "<p><strong>What happens.</strong> On lines <a href=\"#1\">1</a>, <a href=\"#2\">2</a> and 9, fine 1, in the line",
         ),
+        at(&lines, "<a href=\"#2\">2</a> of it, and deadline 2:</p>"),
         at(&lines, "<pre><a href=\"#2\">2 pick nothing 0 -</a>"),
         at(&lines, "    queue empty</pre>"),
     ];
@@ -145,7 +147,7 @@ fn the_index_leads_to_the_chapters() {
     at(&lines, "<h1>A lesson</h1>");
     at(
         &lines,
-        "<p>Read &lt;this&gt;, <strong>not <code>that</code></strong>: <a href=\"../CALLS.md\">CALLS</a>.</p>",
+        "<p>Read &lt;this&gt;, 2 * 3 [not], <strong>not <code>that</code></strong>: <a href=\"../CALLS.md\">CALLS</a>, <code>**</code>, in line 1.</p>",
     );
     at(
         &lines,
