@@ -73,8 +73,30 @@ def size(card):
     return len(records(card["reads"])) + len(records(card["writes"]))
 
 
+def each(card):
+    """What the units of 1 + n are for."""
+    n = size(card)
+    return ["1, and no record", "1, and 1 for its record"][n] if n < 2 else f"1, and 1 for each of {n} records"
+
+
+def ready(cards, place, fuel):
+    """How a Blocked card that conflicts with nothing ahead can be promoted, in the page's words."""
+    card = cards[place]
+    tenant = card["name"].split(".")[0]
+    ahead = conflicts_ahead(cards)
+    own = [other["name"] for other in cards[:place] if other["name"].split(".")[0] == tenant]
+    sooner = [name for name in own if name in ahead and not ahead[name]]
+    behind = any(clashes(card, other) for other in cards[place + 1:])
+    paid = " or ".join(["a Scan"] * (not sooner) + ["a Recheck"] * (not behind)) if fuel else ""
+    ways = ", or ".join(["a Pick"] * (place == 0) + [f"with fuel for it {paid}"] * bool(paid))
+    said = f"{ways} promotes it" if ways else "at the front a Pick will promote it"
+    if not fuel:
+        return f"{said}; tenant {tenant} is dry"
+    return f"{said}; a Scan promotes {sooner[0]} first" if sooner else said
+
+
 def price(shown, before, rows):
-    """The parts that a step's price must have, as units and words that tell what for; None where the answer is a refusal's row."""
+    """The parts that a step's price must have, as units and words that tell what for."""
     line = fields(shown["line"])
     refused = re.fullmatch(r"refused:(\d+)", line.answer)
     cards = {card["name"]: card for card in before["cards"]}
@@ -84,23 +106,24 @@ def price(shown, before, rows):
         if line.call == "file":
             return []
         meaning, burns = rows[(line.call, refused[1])]
-        return [(int(burns), f"refusal {refused[1]}, {meaning}")]
+        return [(int(burns), f"for refusal {refused[1]} by the table: {meaning}")]
     if line.call == "begin":
-        each = 1 + size(shown["cards"][-1])
-        return [(each, "now"), (each, "release")]
+        joined = shown["cards"][-1]
+        half = 1 + size(joined)
+        return [(half, f"now: {each(joined)}"), (half, f"for the release, paid beforehand: {each(joined)}")]
     if line.call == "recheck":
         name = ".".join(shown["typed"].split()[1:])
-        return [(1 + size(cards[name]), f"recheck of {name}")]
-    return [(1, "cancel")] if line.call == "cancel" else []
+        return [(1 + size(cards[name]), f"for the Recheck of {name}: {each(cards[name])}")]
+    return [(1, "for the cancel")] if line.call == "cancel" else []
 
 
 def search_price(line, queue):
     """1, and 1 + n for each entry from the front, up to the one that is promoted, or as far as the units went."""
-    parts = [(1, "the search itself")]
+    parts = [(1, "for the Scan itself")]
     for card in queue:
         if line.answer.startswith("refused") and sum(units for units, _ in parts) == int(line.burnt):
             break
-        parts.append((1 + size(card), f"look at {card['name']}:"))
+        parts.append((1 + size(card), f"for the look at {card['name']}: {each(card)}"))
         if line.answer.endswith(f":{card['name']}"):
             break
     return parts

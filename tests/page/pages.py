@@ -52,8 +52,8 @@ class PageTest(unittest.TestCase):
 
     def is_at(self, step):
         """The step is shown, by all that tells which one it is."""
+        self.browser.until(lambda: self.browser.read()["at"] == step, f"step {step} is shown")
         shown = self.browser.read()
-        self.assertEqual(shown["at"], step)
         self.assertRegex(shown["call"], rf"^Step {step}: ")
         self.assertRegex(shown["line"], rf"^{step} ")
         self.assertRegex(shown["announced"], rf"^Step {step} of \d+\. ")

@@ -74,7 +74,7 @@ class Looks(PageTest):
         """A state's word stands on its card, and its bars differ in their pattern."""
         self.browser.open(MADE / "examples/order.html", "#14")
         self.assertEqual([card["state"] for card in self.browser.read()["cards"]], ["Waiting", "Blocked"])
-        marks = self.browser.run("return ['free', 'waiting', 'blocked'].map((id) => document.getElementById(id).children[1]?.tagName || '')")
+        marks = self.browser.run("return ['free', 'waiting', 'blocked'].map((id) => document.getElementById(`bar-${id}`).children[1]?.tagName || '')")
         self.assertEqual(marks, ["", "circle", "path"])
 
     def test_what_differs_is_red(self):

@@ -55,8 +55,9 @@ class Quiz(PageTest):
     def check_hidden(self, line, shown):
         number, call, *_ = line.split(" ")
         self.assertEqual(shown["line"], f"{number} {call} ? ? ?")
-        hidden = [shown[name] for name in ("answer", "burnt", "left", "meaning", "price", "said", "verdict")]
+        hidden = [shown[name] for name in ("answer", "burnt", "left", "whose", "meaning", "price", "verdict")]
         self.assertEqual(hidden, [""] * len(hidden))
+        self.assertEqual(shown["now"], shown["line"])
         self.assertNotIn(line, self.browser.run("return document.body.innerText"))
         self.assertTrue(all(card["looked"] == card["why"] == "" for card in shown["cards"]))
         self.assertNotIn("Answer", shown["announced"])
@@ -73,13 +74,14 @@ class Quiz(PageTest):
         plain = [{**card, "why": "", "touched": False} for card in before["cards"]]
         self.assertEqual([{**card, "touched": False} for card in asked["cards"]], plain)
         self.assertEqual(asked["conflicts"], before["conflicts"])
-        self.assertEqual(self.browser.find("#queue-name").text, "The queue before the call: 2 requests, front first")
+        for part, name in [("queue", "The queue before the call: 2 requests, front first"), ("tanks", "Tanks and places before the call"), ("counters", "Counters before the call")]:
+            self.assertEqual(self.browser.find(f"#{part}-name").text, name)
 
     def test_wrong_answers_and_giving_up(self):
         self.ask(FRONT, "#7")
         self.browser.press(Keys.ARROW_RIGHT)
         self.choose("free", "2")
-        self.assertEqual(self.browser.read()["verdict"], "Answer: not free. Units: right.")
+        self.assertEqual(self.browser.read()["verdict"], "Answer: not Free. Units: right.")
         self.assertEqual(self.browser.read()["score"], "right: 0 of 1 answer, 1 of 1 price")
         self.browser.press(Keys.ARROW_RIGHT)
         self.choose("still", "0")
@@ -99,7 +101,26 @@ class Quiz(PageTest):
         self.browser.click("#question [value=still]")
         self.browser.click("#question [type=submit]")
         self.assertTrue(self.browser.read()["asks"])
-        self.assertEqual(self.browser.read()["score"], "right: 0 of 0 answers, 0 of 0 prices")
+        self.assertEqual(self.browser.read()["score"], "asks from step 8 on")
+
+    def test_what_was_begun_stays(self):
+        """A key that leads on is stopped at the question, and does not clear it."""
+        self.ask(FRONT, "#7")
+        self.browser.press(Keys.ARROW_RIGHT)
+        self.browser.click("#question [value=still]")
+        self.browser.click("#forward")
+        self.assertTrue(self.browser.find("#question [value=still]").is_selected())
+        self.browser.press(Keys.ARROW_LEFT)
+        self.assertEqual(self.browser.read()["line"], "7 finish done 0 22")
+        self.browser.press(Keys.ARROW_RIGHT)
+        self.assertTrue(self.browser.find("#question [value=still]").is_selected())
+
+    def test_at_the_end_it_asks_from_the_beginning(self):
+        self.ask(FRONT, "#18")
+        shown = self.browser.read()
+        self.assertEqual((shown["at"], shown["score"]), (1, "asks from step 2 on"))
+        self.browser.press(Keys.ARROW_RIGHT)
+        self.assertEqual(self.browser.read()["line"], "2 grant ? ? ?")
 
     def test_no_step_is_passed_over(self):
         self.ask(FRONT, "#7")
@@ -118,7 +139,8 @@ class Quiz(PageTest):
             "const cover = document.querySelector('.cover');"
             "return [Number(cover.getAttribute('x')), Number(cover.getAttribute('width'))]")
         whole = self.browser.run("return document.querySelector('#drawing svg').clientWidth")
-        self.assertAlmostEqual(start, 36 + (whole - 36) * 7 / 18, delta=1)
+        border = 36 + (whole - 36) * 7 / 18
+        self.assertTrue(border - 3 < start < border - 1, "the cover hides where the lines turn, and little more")
         self.assertAlmostEqual(start + width, whole, delta=1)
         self.assertNotIn("admitted", self.browser.find("#chart-said").text)
         lines = self.browser.run("return [...document.querySelectorAll('#lines li')].map((item) => item.innerText)")
@@ -134,7 +156,7 @@ class Quiz(PageTest):
         self.assertEqual((shown["asks"], shown["answer"], shown["score"]), (False, "still", ""))
         # Ticked again, it begins anew behind the step that is shown.
         self.browser.click("#ask")
-        self.assertEqual(self.browser.read()["score"], "right: 0 of 0 answers, 0 of 0 prices")
+        self.assertEqual(self.browser.read()["score"], "asks from step 9 on")
         self.browser.press(Keys.ARROW_RIGHT)
         self.assertEqual(self.browser.read()["line"], "9 recheck ? ? ?")
 
@@ -143,8 +165,8 @@ class Quiz(PageTest):
         self.browser.run("document.querySelector('#ask').focus()")
         self.browser.press(Keys.SPACE)
         self.browser.press(Keys.ARROW_RIGHT)
-        # The first choice has the focus: down to the third, on to the units, and Enter.
-        self.browser.press(Keys.ARROW_DOWN, Keys.ARROW_DOWN)
+        # On to the first choice, down to the third, on to the units, and Enter.
+        self.browser.press(Keys.TAB, Keys.SPACE, Keys.ARROW_DOWN, Keys.ARROW_DOWN)
         self.browser.press(Keys.TAB)
         self.browser.press("2", Keys.ENTER)
         shown = self.browser.read()

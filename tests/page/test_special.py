@@ -81,7 +81,7 @@ class Special(PageTest):
             shown = self.browser.read()
             self.assertIn(f"Refusal {number}: {rows[('file', number)][0]}.", shown["meaning"])
             self.assertEqual(shown["price"], "A file refusal burns nothing.")
-            self.assertIn("The file has no call here.", shown["call"])
+            self.assertIn("The file is not read any further.", shown["call"])
         self.assertGreaterEqual(seen, {"20", "21", "22", "23"})
 
     def test_long_files_open(self):
@@ -107,5 +107,5 @@ class Special(PageTest):
     def test_the_pages_of_the_command_are_the_examples(self):
         """bin/lockrun --page puts the comments of a text beside its calls."""
         self.browser.open(MADE / "examples/front.html", "#8")
-        self.assertEqual(self.browser.read()["said"], "Cx of 10 is 2: one for 2.1, one for 1.2 behind it")
+        self.assertEqual(self.browser.read()["said"], ["Cx of 10 is 2: one for 2.1, one for 1.2 behind it"])
         self.assertEqual(self.browser.find("#run-name").text, "The run of front.txt")

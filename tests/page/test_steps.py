@@ -4,12 +4,14 @@ import re
 
 from selenium.webdriver.common.keys import Keys
 
-from following import clashes, conflicts_ahead, price, tank_numbers, tank_places, view
+from following import clashes, conflicts_ahead, price, ready, tank_numbers, tank_places, view
 from listings import fields, refusal_rows, steps
 from pages import CHAPTERS, EXAMPLES, GENERATED, PageTest, run_of
 
 ROWS = refusal_rows()
-LABELS_AT_MOST = 24
+LABELLED_AT_MOST = 12
+LABELLED_SPAN = 7  # cards, at this width
+ORDINALS = ["front", "2nd", "3rd", *[f"{place}th" for place in range(4, 21)], "21st", "22nd", "23rd", *[f"{place}th" for place in range(24, 31)]]
 
 
 class EveryStep(PageTest):
@@ -48,7 +50,9 @@ class EveryStep(PageTest):
         before = seen[-1] if seen else {"cards": [], "tanks": []}
         self.assertEqual(shown["line"], step.line)
         self.assertEqual((shown["answer"], shown["burnt"], shown["left"]), (line.answer, line.burnt, line.left))
-        self.assertEqual(shown["red"], [])
+        self.assertEqual((shown["red"], shown["now"]), ([], step.line))
+        whose = "" if line.left == "-" else f"in the tank of tenant {shown['typed'].split()[1]}"
+        self.assertEqual(shown["whose"], whose)
         if line.call != "file":
             self.assertEqual(view(shown), step.view)
             self.assertEqual(shown["typed"].split()[0], line.call)
@@ -63,25 +67,33 @@ class EveryStep(PageTest):
         ahead = conflicts_ahead(shown["cards"])
         wanted = [(name, other, on) for name, others in ahead.items() for other, on in others]
         self.assertEqual(shown["conflicts"], [[name, other] for name, other, _ in wanted])
-        if len(wanted) <= LABELS_AT_MOST:
-            short = [f"{on[0]} +{len(on) - 1}" if len(on) > 2 else " ".join(map(str, on)) for _, _, on in wanted]
-            self.assertEqual(shown["labels"], short)
+        touched = [card["name"] for card in shown["cards"] if card["touched"]]
+        places = {name: place for place, name in enumerate(cards)}
+        close = max([places[name] - places[other] for name, other, _ in wanted], default=1) <= LABELLED_SPAN
+        if len(wanted) <= LABELLED_AT_MOST and close:
+            labelled = wanted
+        else:
+            labelled = [conflict for conflict in wanted if conflict[0] in touched]
+        self.assertEqual(shown["labels"], [f"{on[0]}…" if len(on) > 1 else f"{on[0]}" for _, _, on in labelled])
+        fuel = {str(tank["tenant"]): tank_numbers(tank)["left"] for tank in shown["tanks"]}
         for name, others in ahead.items():
             why = cards[name]["why"]
             if not others:
-                self.assertRegex(why, "^nothing ahead conflicts: it may run")
-                self.check_behind(why, name, shown["cards"])
+                self.check_ready(why, places[name], shown["cards"], fuel[name.split(".")[0]])
             for other, on in others[:20]:
                 records = re.escape(", ".join(map(str, on[:-1])) + " and " + str(on[-1]) if len(on) > 1 else str(on[0]))
                 self.assertRegex(why, rf"\b{re.escape(other)} on records? {records}\b")
-        places = [card["place"] for card in shown["cards"]]
-        self.assertEqual(places, ["front"] * bool(places) + [str(place) for place in range(2, len(places) + 1)])
+        named = [card["place"] for card in shown["cards"]]
+        self.assertEqual(named[:len(ORDINALS)], ORDINALS[:len(named)])
 
-    def check_behind(self, why, name, cards):
-        place = [card["name"] for card in cards].index(name)
+    def check_ready(self, why, place, cards, fuel):
+        """What nothing ahead holds up is said to be so, with the calls that promote it as things stand."""
+        due = re.match(r"answers due: (\d+)", cards[place]["due"])
+        then = "it may run" if not due or due[1] == "0" else f"it may go on to wait for its {due[1]} answer"
+        self.assertTrue(why.startswith(f"nothing ahead conflicts, so {then}"), why)
+        self.assertIn(f": {ready(cards, place, fuel)}.", why)
         behind = any(clashes(cards[place], other) for other in cards[place + 1:])
-        self.assertEqual("A Recheck says still" in why, behind)
-        self.assertEqual("a Pick" in why, place == 0)
+        self.assertEqual("A Recheck says “still”" in why, behind)
 
     def check_tanks(self, shown, line, before):
         """What is left is what was granted less what was burnt, and a call's units are the named tenant's alone."""
@@ -102,15 +114,12 @@ class EveryStep(PageTest):
     def check_price(self, shown, line, before):
         wanted = price(shown, before, ROWS)
         self.assertEqual([units for units, _ in shown["parts"]], [units for units, _ in wanted])
-        for (_, found), (_, what) in zip(shown["parts"], wanted):
-            self.assertIn(what, found)
+        for (_, found), (units, what) in zip(shown["parts"], wanted):
+            self.assertEqual(found, f"{units} {what}")
         self.assertEqual(sum(units for units, _ in wanted), int(line.burnt))
         if len(wanted) > 1:
             units = " + ".join(str(units) for units, _ in wanted)
             self.assertEqual(shown["sum"], f"{units} = {line.burnt}")
-        refused = re.fullmatch(r"refused:(\d+)", line.answer)
-        if refused:
-            self.assertIn(ROWS[(line.call, refused[1])][0], shown["meaning"])
         looked = [card["looked"] for card in shown["cards"]]
-        looks = [f"looked at: {units}" for units, what in wanted if what.startswith("look at")]
+        looks = [f"look: {units} unit{'s' if units > 1 else ''}" for units, what in wanted if what.startswith("for the look at")]
         self.assertEqual(looked, (looks + [""] * len(looked))[:len(looked)])

@@ -8,6 +8,7 @@ from pages import CHAPTERS, INDEX, LONG, MADE, PageTest, run_of
 
 FRONT = MADE / "examples/front.html"
 LAST = 18
+GUTTER = 36  # of the chart, left of its columns
 
 
 class Stepping(PageTest):
@@ -17,12 +18,14 @@ class Stepping(PageTest):
         for button, step in [("forward", 2), ("forward", 3), ("back", 2), ("last", LAST), ("back", LAST - 1), ("first", 1)]:
             self.browser.click(f"#{button}")
             self.is_at(step)
-        self.assertEqual([self.enabled(button) for button in ("first", "back", "forward", "last")], [False, False, True, True])
+        self.assertEqual(self.switched_off(), ["first", "back"])
+        self.browser.click("#back")
+        self.is_at(1)
         self.browser.click("#last")
-        self.assertEqual([self.enabled(button) for button in ("first", "back", "forward", "last")], [True, True, False, False])
+        self.assertEqual(self.switched_off(), ["forward", "last"])
 
-    def enabled(self, button):
-        return self.browser.find(f"#{button}").is_enabled()
+    def switched_off(self):
+        return [found.get_attribute("id") for found in self.browser.find_all("button[aria-disabled=true]")]
 
     def test_keys(self):
         self.browser.open(FRONT)
@@ -83,7 +86,7 @@ class Stepping(PageTest):
 
     def test_the_number(self):
         self.browser.open(FRONT)
-        for typed, step in [("7", 7), ("18", 18), ("99", LAST), ("0", 1), ("", 1)]:
+        for typed, step in [("7", 7), ("18", 18), ("99", LAST), ("-3", 1), ("4", 4), ("", 4)]:
             self.browser.run("document.querySelector('#at').select()")
             self.browser.press(Keys.BACKSPACE, typed, Keys.ENTER)
             self.is_at(step)
@@ -99,31 +102,48 @@ class Stepping(PageTest):
         self.browser.run("document.querySelector('#chart').scrollIntoView()")
         left, top, width = self.browser.run(
             "const { left, top, width } = document.querySelector('#drawing svg').getBoundingClientRect(); return [left, top, width]")
-        gutter = 36
         for step in (1, 7, 8, LAST):
-            self.browser.click_at(left + gutter + (width - gutter) * (step - 0.5) / LAST, top + 30)
+            self.browser.click_at(left + GUTTER + (width - GUTTER) * (step - 0.5) / LAST, top + 30)
             self.is_at(step)
             x, wide = (float(self.browser.find(".cursor").get_attribute(name)) for name in ("x", "width"))
-            self.assertAlmostEqual(x + wide / 2, gutter + (width - gutter) * (step - 0.5) / LAST, delta=1)
+            self.assertAlmostEqual(x + wide / 2, GUTTER + (width - GUTTER) * (step - 0.5) / LAST, delta=1)
+        # Left of the columns there is no step.
+        self.browser.click("#first")
+        self.browser.run("document.querySelector('#chart').scrollIntoView()")
+        top = self.browser.run("return document.querySelector('#drawing svg').getBoundingClientRect().top")
+        self.browser.press(Keys.ARROW_RIGHT)
+        self.browser.click_at(left + 5, top + 30)
+        self.is_at(2)
 
     def test_the_bars(self):
         """Each request's bar goes from its admission to its leaving, and changes with its state."""
         self.browser.open(MADE / "examples/hung.html")
-        bars = self.browser.run(
-            "return [...document.querySelectorAll('.request')].map((bar) => [bar.dataset.name, Number(bar.dataset.to),"
-            " [...bar.querySelectorAll('rect')].map((part) => [part.getAttribute('class'), Number(part.dataset.from)])])")
-        self.assertEqual(bars, [
-            ["1.1", 14, [["free", 5]]],
-            ["2.1", 18, [["blocked", 6], ["free", 16]]],
-            ["3.1", 19, [["blocked", 7], ["free", 17]]],
-            ["1.2", 13, [["blocked", 8]]],
-            ["3.2", 24, [["waiting", 20]]],
-            ["2.2", 29, [["blocked", 21], ["free", 26]]],
-            ["3.3", 23, [["blocked", 22]]],
-            ["1.3", 29, [["free", 28]]],
-        ])
+        column = (self.browser.run("return document.querySelector('#drawing svg').clientWidth") - GUTTER) / 28
+        bars = {}
+        for name, state, x, width, y in self.browser.run(
+                "return [...document.querySelectorAll('.request rect')].map((part) => [part.parentElement.dataset.name,"
+                " part.getAttribute('class'), ...['x', 'width', 'y'].map((side) => Number(part.getAttribute(side)))])"):
+            start, end = (x - GUTTER) / column + 1, (x + width - GUTTER) / column + 1
+            self.assertAlmostEqual(start, round(start), delta=0.05)
+            self.assertAlmostEqual(end, round(end), delta=0.05)
+            bars.setdefault(name, [y]).append((state, round(start), round(end)))
+        rows = {name: y for name, (y, *_) in bars.items()}
+        self.assertEqual({name: parts for name, (_, *parts) in bars.items()}, {
+            "1.1": [("free", 5, 14)],
+            "2.1": [("blocked", 6, 16), ("free", 16, 18)],
+            "3.1": [("blocked", 7, 17), ("free", 17, 19)],
+            "1.2": [("blocked", 8, 13)],
+            "3.2": [("waiting", 20, 24)],
+            "2.2": [("blocked", 21, 26), ("free", 26, 29)],
+            "3.3": [("blocked", 22, 23)],
+            "1.3": [("free", 28, 29)],
+        })
+        # A row is a place of a tenant's, the lowest that is free.
+        self.assertEqual(sorted(set(rows.values())), [rows["1.1"], rows["1.2"], rows["2.1"], rows["3.1"], rows["3.3"]])
+        self.assertEqual((rows["1.3"], rows["2.2"], rows["3.2"]), (rows["1.1"], rows["2.1"], rows["3.1"]))
         legend = [entry.text for entry in self.browser.find_all("#legend li")]
-        self.assertEqual(legend, ["Free", "Waiting", "Blocked", "fuel of tenant 1", "fuel of tenant 2", "fuel of tenant 3"])
+        fuel = [f"t{tenant}, fuel of tenant {tenant}" for tenant in (1, 2, 3)]
+        self.assertEqual(legend, ["Free", "Waiting", "Blocked", *fuel])
         self.assertEqual(len(self.browser.find_all("#drawing path.fuel")), 3)
 
 
@@ -141,6 +161,11 @@ class Addresses(PageTest):
         self.browser.driver.back()
         self.is_at(7)
 
+    def test_a_link_right_after_a_key_is_followed(self):
+        self.browser.open(FRONT)
+        self.browser.run("document.querySelector('#forward').click(); location.hash = '#9'")
+        self.is_at(9)
+
     def test_reloading_stays(self):
         self.browser.open(FRONT)
         self.browser.press(Keys.ARROW_RIGHT, Keys.ARROW_RIGHT)
@@ -157,10 +182,12 @@ class Addresses(PageTest):
         shown = self.is_at(7)
         front = shown["cards"][0]
         self.assertEqual((front["place"], front["name"], front["state"]), ("front", "2.1", "Blocked"))
-        self.assertIn("nothing ahead conflicts: it may run, and a Pick or a search lets it", front["why"])
-        self.assertIn("A Recheck says still: it counts those behind as well, 1.2 on record 10", front["why"])
+        self.assertEqual(front["why"], "nothing ahead conflicts, so it may run: a Pick, or with fuel for it a Scan promotes it."
+                         " A Recheck says “still”: it counts those behind as well, 1.2 on record 10.")
         self.assertEqual(shown["conflicts"], [["1.2", "2.1"]])
-        self.assertEqual(shown["said"], "2.1 is the front now: blocked, and it may run")
+        self.assertEqual(shown["said"], ["2.1 is the front now: blocked, and it may run"])
+        for selector in ("#call", "#cards .why"):
+            self.assertTrue(self.in_sight(selector), selector)
         # What the text says below the run leads back up to it.
         link = [found for found in self.browser.find_all(".prose a[href='#10']")][0]
         self.browser.run("arguments[0].scrollIntoView()", link)
@@ -190,7 +217,7 @@ class Addresses(PageTest):
         self.browser.click(".chapters a")
         for chapter in CHAPTERS[1:]:
             self.browser.find_all(".ways a")[-1].click()
-            self.assertTrue(self.browser.driver.current_url.endswith(chapter.name))
+            self.browser.until(lambda: chapter.name in self.browser.driver.current_url, chapter.name)
 
 
 class ByKeyboardAlone(PageTest):
@@ -228,7 +255,7 @@ class ByKeyboardAlone(PageTest):
             if found.is_displayed():
                 self.assertNotEqual(found.accessible_name.strip(), "", found.get_attribute("outerHTML")[:200])
         names = {found.accessible_name for found in self.browser.find_all("section")}
-        self.assertLessEqual({"The proved listing", "Tanks and places", "Counters", "The whole run"}, names)
+        self.assertLessEqual({"The proved listing", "Tanks and places before the call", "Counters before the call", "The whole run"}, names)
         headings = [found.tag_name for found in self.browser.find_all("h1, h2, h3, h4") if found.is_displayed()]
         levels = [int(name[1]) for name in headings]
         self.assertTrue(all(after <= before + 1 for before, after in zip(levels, levels[1:])), headings)

@@ -4,6 +4,7 @@
 const GUTTER = 36; // left of the columns, for the tenants' numbers
 const BARS_HEIGHT = 320; // at most, unless the rows would be too thin to see
 const FUEL_HEIGHT = 110;
+const BELOW = 22; // for the steps' numbers
 
 const chart = { plot: null, cursor: null, cover: null, width: 0 };
 
@@ -18,15 +19,15 @@ function drawChart() {
   chart.width = place.clientWidth;
   const rows = rowsOf(requests);
   const rowHeight = Math.max(6, Math.min(20, Math.round(BARS_HEIGHT / Math.max(1, rows.count))));
-  const fuelTop = rows.count * rowHeight + 14;
-  const height = fuelTop + FUEL_HEIGHT + 8;
+  const fuelTop = rows.count * rowHeight + 20;
+  const height = fuelTop + FUEL_HEIGHT + 4;
   const top = (row) => row * rowHeight + 4;
-  const numbers = [...rows.first].map(([tenant, row]) => tick(`t${tenant}`, top(row) + rowHeight * 0.7));
+  const numbers = [...rows.first].map(([tenant, row]) => tick(`t${tenant}`, GUTTER - 6, top(row) + rowHeight * 0.7));
   const bars = requests.map((request) => bar(request, top(rows.first.get(request.tenant) + request.row), rowHeight - 3));
   chart.cursor = svgElement("rect", { class: "cursor", y: 0, height });
   chart.cover = svgElement("rect", { class: "cover", y: 0, height });
-  chart.plot = svgElement("svg", { width: chart.width, height, "aria-hidden": "true" },
-    patterns(), ...numbers, ...bars, ...fuelLines(fuel, fuelTop), chart.cursor, chart.cover);
+  chart.plot = svgElement("svg", { width: chart.width, height: height + BELOW, "aria-hidden": "true" },
+    patterns(), ...numbers, ...stepNumbers(height + 14), ...bars, ...fuelLines(fuel, fuelTop), chart.cover, chart.cursor);
   place.replaceChildren(chart.plot);
   showLegend(fuel);
 }
@@ -43,14 +44,29 @@ function rowsOf(requests) {
   return rows;
 }
 
-function tick(words, y) {
-  return svgElement("text", { class: "tick", x: GUTTER - 6, y }, words);
+function tick(words, x, y) {
+  return svgElement("text", { class: "tick", x, y }, words);
+}
+
+// Numbers below the columns, as many as there is room for, in round distances.
+function stepNumbers(y) {
+  const room = (chart.width - GUTTER) / 48;
+  const wanted = last / room;
+  const power = 10 ** Math.floor(Math.log10(Math.max(1, wanted)));
+  const distance = [1, 2, 5, 10].map((factor) => factor * power).find((found) => found >= wanted) || 1;
+  const numbers = [];
+  for (let at = distance; at <= last; at += distance) numbers.push(at);
+  return numbers.map((at) => {
+    const number = tick(`${at}`, (columnStart(at) + columnStart(at + 1)) / 2, y);
+    number.classList.add("below");
+    return number;
+  });
 }
 
 // States differ by more than their colour: what waits is dotted, what is blocked is hatched.
 function patterns() {
   const tile = (state, ...inside) =>
-    svgElement("pattern", { id: state, width: 6, height: 6, patternUnits: "userSpaceOnUse" },
+    svgElement("pattern", { id: `bar-${state}`, width: 6, height: 6, patternUnits: "userSpaceOnUse" },
       svgElement("rect", { class: "ground", width: 6, height: 6 }), ...inside);
   return svgElement("defs", {},
     tile("free"),
@@ -61,12 +77,11 @@ function patterns() {
 function bar({ name, from, to, states }, y, height) {
   const told = states.map(([at, state]) => `${WORD[state]} from step ${at}`).join(", ");
   const gone = to > last ? "" : `, gone at step ${to}`;
-  const made = svgElement("g", { class: "request", "data-name": name, "data-from": from, "data-to": to },
-    svgElement("title", {}, `${name}: ${told}${gone}`));
+  const made = svgElement("g", { class: "request", "data-name": name }, svgElement("title", {}, `${name}: ${told}${gone}`));
   states.forEach(([at, state], part) => {
     const end = part + 1 < states.length ? states[part + 1][0] : to;
     const [x, right] = [columnStart(at), columnStart(end) - (end === to ? 1 : 0)];
-    made.append(svgElement("rect", { class: state, "data-from": at, x, y, width: Math.max(0.7, right - x), height }));
+    made.append(svgElement("rect", { class: state, x, y, width: Math.max(0.7, right - x), height }));
   });
   if (columnStart(to) - columnStart(from) > 11 * name.length && height > 10) {
     made.append(svgElement("text", { class: "inside", x: columnStart(from) + 4, y: y + height / 2 + 4 }, name));
@@ -74,6 +89,7 @@ function bar({ name, from, to, states }, y, height) {
   return made;
 }
 
+// A line for each tenant, with its number where it first has fuel.
 function fuelLines(fuel, top) {
   const most = [...fuel.values()].flat().reduce((high, [, left]) => Math.max(high, left), 1);
   const height = (left) => top + FUEL_HEIGHT * (1 - left / most);
@@ -84,9 +100,14 @@ function fuelLines(fuel, top) {
     });
     return svgElement("path", { class: `fuel tenant-${tenant}`, d: `M${parts.join("L")}` });
   };
+  const number = ([tenant, noted]) => {
+    const [at, left] = noted.find(([, units]) => units > 0) || noted[0];
+    return svgElement("text", { class: `number tenant-${tenant}`, x: columnStart(at) + 2, y: height(left) - 3 }, `t${tenant}`);
+  };
   const axis = svgElement("path", { class: "axis", d: `M${GUTTER} ${height(0)}H${chart.width}` });
   const short = most < 100000 ? `${most}` : most.toExponential(0).replace("e+", "e");
-  return [axis, tick("0", height(0) + 4), tick(short, height(most) + 6), ...[...fuel].map(line)];
+  const ticks = [tick("0", GUTTER - 6, height(0) + 4), tick(short, GUTTER - 6, height(most) + 6)];
+  return [axis, ...ticks, ...[...fuel].map(line), ...[...fuel].map(number)];
 }
 
 // Whose line is whose, and which state is which.
@@ -94,31 +115,32 @@ function showLegend(fuel) {
   const entry = (kind, words) => element("li", {}, element("span", { class: kind }), words);
   byId("legend").replaceChildren(
     ...Object.entries(WORD).map(([state, word]) => entry(`swatch ${state}`, word)),
-    ...[...fuel.keys()].map((tenant) => entry(`stroke tenant-${tenant}`, `fuel of tenant ${tenant}`)));
+    ...[...fuel.keys()].map((tenant) => entry(`stroke tenant-${tenant}`, `t${tenant}, fuel of tenant ${tenant}`)));
 }
 
-// Puts the cursor on a step. From a step on, the chart is covered.
-function markChart(at, hidden) {
+// Puts the cursor on the step. From the first hidden one on, the chart is covered.
+function markChart() {
   if (!chart.plot) return;
-  const wide = columnStart(at + 1) - columnStart(at);
-  chart.cursor.setAttribute("x", columnStart(at) - Math.max(0, 2 - wide) / 2);
+  const wide = columnStart(shown + 1) - columnStart(shown);
+  chart.cursor.setAttribute("x", columnStart(shown) - Math.max(0, 2 - wide) / 2);
   chart.cursor.setAttribute("width", Math.max(2, wide));
   // At the border a line already turns to where it goes.
-  const covered = hidden > last ? chart.width : columnStart(hidden) - 2;
+  const covered = hiddenStep() > last ? chart.width : columnStart(hiddenStep()) - 2;
   chart.cover.setAttribute("x", covered);
   chart.cover.setAttribute("width", chart.width - covered);
-  const told = hidden > last ? requestsWords(wholeRun().requests) : "What comes is covered.";
-  byId("chart-said").textContent =
-    `Above, a bar for each request, in the rows of its tenant's places; below, the fuel of each tenant. ${told} Click to go to a step.`;
+  byId("chart-said").textContent = chartWords();
 }
 
-function requestsWords(requests) {
-  const gone = requests.filter(({ to }) => to <= last).length;
-  return `${counted(requests.length, "request")} admitted, ${gone.toLocaleString("en")} gone at the end.`;
+function chartWords() {
+  const { requests } = wholeRun();
+  const gone = requests.filter(({ to }) => to <= last).length.toLocaleString("en");
+  const told = `${counted(requests.length, "request")} admitted, ${gone} gone at the end.`;
+  const parts = "Above, a bar for each request, in the rows of its tenant's places; below, the fuel of each tenant.";
+  return `${parts} ${hiddenStep() > last ? told : "What comes is covered."} Click to go to a step.`;
 }
 
-// The step whose column is under a click.
+// The step whose column is under a click; left of the columns, none.
 function stepUnder(event) {
   const across = event.clientX - chart.plot.getBoundingClientRect().left - GUTTER;
-  return Math.floor((across * last) / (chart.width - GUTTER)) + 1;
+  return across < 0 ? shown : Math.floor((across * last) / (chart.width - GUTTER)) + 1;
 }

@@ -1,62 +1,50 @@
 // The listing beside the step. A long run has more lines than a browser lays out at once, so only those in sight are there.
 
 const lines = byId("lines");
-const rows = lines.firstElementChild;
+const lineItems = lines.firstElementChild;
 const SPARE = 12; // lines kept above and below those in sight
 
 let lineHeight = 0;
-let shownStep = 0;
-let hiddenFrom = Infinity;
 
 byId("header").textContent = run.line || "";
 if (run.difference) byId("header").classList.add("differs");
 
 // What the listing says of a step; of those that the student is still to be asked about, the call alone.
 function lineText(at) {
-  const step = steps[at - 1];
-  if (at < hiddenFrom) return step.line === undefined ? "(no line)" : step.line;
-  return `${at} ${step.call ? step.call.split(" ")[0] : "file"} ? ? ?`;
+  const { line, call } = steps[at - 1];
+  if (at >= hiddenStep()) return `${at} ${call ? call.split(" ")[0] : "file"} ? ? ?`;
+  return line === undefined ? "(no line)" : line;
 }
 
 function lineItem(at) {
-  const link = element("a", { href: `#${at}`, tabindex: at === shownStep ? "0" : "-1" }, lineText(at));
+  const link = element("a", { href: `#${at}`, tabindex: at === shown ? "0" : "-1" }, lineText(at));
   const top = `top: ${(at - 1) * lineHeight}px`;
   const item = element("li", { class: "line", style: top, "aria-setsize": last, "aria-posinset": at }, link);
-  if (at === shownStep) link.setAttribute("aria-current", "step");
-  if (at < hiddenFrom && steps[at - 1].difference) item.classList.add("differs");
+  if (at === shown) link.setAttribute("aria-current", "step");
+  if (at < hiddenStep() && steps[at - 1].difference) item.classList.add("differs");
   return item;
 }
 
+// Puts in the lines in sight, and that of the step, by which the keyboard gets into the listing.
 function showLines() {
   const from = Math.max(1, Math.floor(lines.scrollTop / lineHeight) - SPARE);
   const to = Math.min(last, Math.ceil((lines.scrollTop + lines.clientHeight) / lineHeight) + SPARE);
-  const focused = rows.contains(document.activeElement);
+  const focused = lineItems.contains(document.activeElement);
   const items = [];
+  if (shown < from) items.push(lineItem(shown));
   for (let at = from; at <= to; at += 1) items.push(lineItem(at));
-  rows.replaceChildren(...items);
-  if (focused) focusLine();
+  if (shown > to) items.push(lineItem(shown));
+  lineItems.replaceChildren(...items);
+  if (focused) lineItems.querySelector("[aria-current]").focus({ preventScroll: true });
 }
 
-function focusLine() {
-  const current = rows.querySelector("[aria-current]");
-  if (current) current.focus({ preventScroll: true });
-}
-
-// Marks the line of a step and brings it into sight; from a step on, answers are hidden.
-function showListing(at, hidden) {
-  shownStep = at;
-  hiddenFrom = hidden;
-  measureLines();
-  const top = (at - 1) * lineHeight;
-  if (top < lines.scrollTop + lineHeight) lines.scrollTop = top - 2 * lineHeight;
-  if (top + 2 * lineHeight > lines.scrollTop + lines.clientHeight) lines.scrollTop = top + 3 * lineHeight - lines.clientHeight;
-  showLines();
-}
-
-// A line's height goes with the reader's letters.
-function measureLines() {
+// Marks the line of the step, and brings it into sight.
+function showListing() {
+  // A line's height goes with the reader's letters.
   lineHeight = byId("header").offsetHeight;
-  rows.style.height = `${last * lineHeight}px`;
+  lineItems.style.height = `${last * lineHeight}px`;
+  bringIntoSight(lines, (shown - 2) * lineHeight, 3 * lineHeight);
+  showLines();
 }
 
 lines.addEventListener("scroll", showLines);

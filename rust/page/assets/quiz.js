@@ -1,7 +1,7 @@
 // The quiz: with the box ticked, a step that has not been shown yet is asked about first.
 
+// In the order in which a call takes them. An Open is the first step, which is always shown.
 const REFUSALS = {
-  open: [14],
   grant: [1, 13],
   begin: [1, 2, 3, 4, 6, 7, 8, 9],
   finish: [1, 2, 10, 11],
@@ -13,11 +13,12 @@ const REFUSALS = {
   evict: [1, 10],
 };
 
-// Up to which step all is known, and of those asked about how many answers and prices were right.
-const quiz = { on: false, known: 0, asked: 0, answers: 0, prices: 0, verdict: "" };
+// Up to which step all is known, which step stands in the question, and of those asked about how many answers and prices were right.
+const quiz = { on: false, known: 0, posed: 0, asked: 0, answers: 0, prices: 0, verdict: "" };
 
+// Asks from the step behind this one on; whoever is at the end is asked from the beginning.
 function startQuiz(at) {
-  Object.assign(quiz, { on: true, known: at, asked: 0, answers: 0, prices: 0, verdict: "" });
+  Object.assign(quiz, { on: true, known: at === last ? 1 : at, posed: 0, asked: 0, answers: 0, prices: 0, verdict: "" });
 }
 
 // The first step that is not to be seen yet.
@@ -66,7 +67,6 @@ function choices(call, before) {
     .flatMap(({ name }) => [free, waiting].map(([state, word]) => [`${state}:${name}`, `${name} is ${word}`]));
   const same = (word) => [word, word];
   const successes = {
-    open: [same("ok")],
     grant: [same("ok")],
     begin: [free, waiting, blocked],
     finish: [same("done")],
@@ -77,7 +77,7 @@ function choices(call, before) {
     deliver: [free, waiting, blocked],
     evict: [same("done")],
   };
-  const refusals = REFUSALS[call.kind].map((number) => [`refused:${number}`, `refused: ${number}, ${row(call.kind, number)}`]);
+  const refusals = REFUSALS[call.kind].map((number) => [`refused:${number}`, `refused: ${number}, ${rowWords(call.kind, number)}`]);
   return [...successes[call.kind], ...refusals];
 }
 
@@ -87,7 +87,10 @@ function choiceOf(call, answer) {
   return call.kind === "scan" || plain.startsWith("refused") ? plain : plain.replace(/:.*/, "");
 }
 
-function showQuestion(call, before) {
+// Puts the question of a step; what the student has begun to answer stays.
+function showQuestion(at, call, before) {
+  if (quiz.posed === at) return;
+  quiz.posed = at;
   const choice = ([value, words]) =>
     element("label", {}, element("input", { type: "radio", name: "answer", value, required: "" }), words);
   byId("question").replaceChildren(
@@ -95,27 +98,27 @@ function showQuestion(call, before) {
     element("label", {}, "How many units does it burn? ",
       element("input", { type: "number", name: "units", min: "0", required: "", inputmode: "numeric" })),
     element("p", { class: "buttons" },
-      element("button", { type: "submit" }, "Check"),
+      element("button", { type: "submit" }, "Check"), " ",
       element("button", { type: "button", id: "give-up" }, "Show me")));
 }
 
-// Judges what the student chose; nothing is chosen where it was given up.
+// Judges what the student chose, with the words of the choice; nothing is chosen where it was given up.
 function judge(at, chosen) {
-  const step = steps[at - 1];
-  const { answer, burnt } = fieldsOf(step);
-  const right = { answer: choiceOf(callOf(step), answer), units: burnt };
+  const { answer, burnt } = fieldsOf(steps[at - 1]);
+  const right = choiceOf(callOf(steps[at - 1]), answer);
   quiz.known = at;
   quiz.asked += 1;
   quiz.verdict = "Shown, and not counted as right.";
   if (!chosen) return;
-  const [answerRight, priceRight] = [chosen.answer === right.answer, chosen.units === right.units];
+  const [answerRight, priceRight] = [chosen.answer === right, chosen.units === burnt];
   if (answerRight) quiz.answers += 1;
   if (priceRight) quiz.prices += 1;
   const verdict = (isRight, said) => (isRight ? "right" : `not ${said}`);
-  quiz.verdict = `Answer: ${verdict(answerRight, chosen.answer)}. Units: ${verdict(priceRight, chosen.units)}.`;
+  quiz.verdict = `Answer: ${verdict(answerRight, chosen.words)}. Units: ${verdict(priceRight, chosen.units)}.`;
 }
 
 function scoreWords() {
   if (!quiz.on) return "";
+  if (quiz.asked === 0) return `asks from step ${quiz.known + 1} on`;
   return `right: ${quiz.answers} of ${counted(quiz.asked, "answer")}, ${quiz.prices} of ${counted(quiz.asked, "price")}`;
 }

@@ -13,16 +13,41 @@ const last = steps.length;
 
 // An element with its attributes and what stands in it.
 function element(tag, attributes, ...children) {
-  const made = document.createElement(tag);
+  return filled(document.createElement(tag), attributes, children);
+}
+
+function svgElement(tag, attributes, ...children) {
+  return filled(document.createElementNS("http://www.w3.org/2000/svg", tag), attributes, children);
+}
+
+function filled(made, attributes, children) {
   for (const [name, value] of Object.entries(attributes)) made.setAttribute(name, value);
   made.append(...children);
   return made;
+}
+
+// Scrolls a box, and nothing around it, so that a part of it can be seen.
+function bringIntoSight(box, top, height) {
+  if (top < box.scrollTop) box.scrollTop = top - height / 2;
+  if (top + height > box.scrollTop + box.clientHeight) box.scrollTop = top + 1.5 * height - box.clientHeight;
 }
 
 // The fields of the proved line of a step, or none.
 function fieldsOf(step) {
   const [number, call, answer, burnt, left] = (step.line || "").split(" ");
   return { number, call, answer, burnt, left };
+}
+
+// The name in an answer such as `blocked:2.1@10`.
+function nameIn(answer) {
+  const found = /^[a-z]+:(\d+\.\d+)/.exec(answer || "");
+  return found && found[1];
+}
+
+// The number of a refusal, or nothing.
+function refusalOf(answer) {
+  const found = /^refused:(\d+)$/.exec(answer || "");
+  return found && Number(found[1]);
 }
 
 // A call with its numbers, from its line of text; nothing where the file has no record.
@@ -35,7 +60,7 @@ function callOf(step) {
   call.tenant = Number(words[0]);
   if (kind === "grant") call.amount = Number(words[1]);
   else if (kind === "begin") readParts(call, words.slice(1));
-  else if (words.length > 1) call.name = `${words[0]}.${words[1]}`;
+  else if (kind !== "scan") call.name = `${words[0]}.${words[1]}`;
   return call;
 }
 
@@ -85,6 +110,16 @@ function stateAfter(count) {
   return reached;
 }
 
+function entryNamed(state, name) {
+  return state.queue.find((entry) => entry.name === name);
+}
+
+// What a tenant has left, or nothing for a number that is no tenant.
+function fuelOf(state, tenant) {
+  const tank = state.tanks.find((known) => known.tenant === tenant);
+  return tank ? tank.granted - tank.burnt : null;
+}
+
 function priceOf(step) {
   return (step.bill || []).reduce((total, [, units]) => total + units, 0);
 }
@@ -99,17 +134,29 @@ function billOf(step, before) {
   return parts;
 }
 
+// At how many entries a step looked.
+function looksOf(step) {
+  const looks = (step.bill || []).find(([word]) => word === "looks");
+  return looks ? looks[2] : 0;
+}
+
 // The records on which two requests conflict: written by one of them, and read or written by the other.
 function clashes(one, other) {
   const both = one.writes.filter((record) => other.writes.includes(record) || other.reads.includes(record));
   const read = one.reads.filter((record) => other.writes.includes(record));
-  return [...both, ...read].sort((a, b) => a - b);
+  return [...both, ...read].sort((low, high) => low - high);
 }
 
 // The entries, of those given, that an entry conflicts with, each with the records.
 function conflictsOf(entry, others) {
   const found = others.map((other) => ({ other, records: clashes(entry, other) }));
   return found.filter(({ records }) => records.length > 0);
+}
+
+// Of an entry of the queue: whom ahead it conflicts with, and whom behind.
+function conflictsIn(queue, entry) {
+  const place = queue.indexOf(entry);
+  return { ahead: conflictsOf(entry, queue.slice(0, place)), behind: conflictsOf(entry, queue.slice(place + 1)) };
 }
 
 let whole = null;
@@ -124,31 +171,40 @@ function wholeRun() {
 // places in use at once.
 function followed() {
   const requests = [];
-  const open = new Map();
+  const queued = new Map();
   const fuel = new Map();
   let state = unopened();
   for (let at = 1; at <= last; at += 1) {
-    const was = state;
-    state = advance(was);
+    const before = state;
+    state = advance(before);
     const { joins, leaves, becomes } = steps[at - 1];
     if (joins) {
-      const entry = state.queue[state.queue.length - 1];
-      const taken = [...open.values()].filter(({ tenant }) => tenant === entry.tenant).map(({ row }) => row);
-      let row = 0;
-      while (taken.includes(row)) row += 1;
-      const request = { name: entry.name, tenant: entry.tenant, row, from: at, to: last + 1, states: [[at, entry.state]] };
+      const { name, tenant, state: mode } = state.queue[state.queue.length - 1];
+      const request = { name, tenant, row: freeRow(queued, tenant), from: at, to: last + 1, states: [[at, mode]] };
       requests.push(request);
-      open.set(entry.name, request);
+      queued.set(name, request);
     }
-    if (becomes) open.get(was.queue[becomes[0]].name).states.push([at, becomes[1]]);
+    if (becomes) noteState(queued.get(before.queue[becomes[0]].name), at, becomes[1]);
     if (leaves !== undefined) {
-      const { name } = was.queue[leaves];
-      open.get(name).to = at;
-      open.delete(name);
+      const { name } = before.queue[leaves];
+      queued.get(name).to = at;
+      queued.delete(name);
     }
     for (const tank of state.tanks) noteFuel(fuel, at, tank);
   }
   return { requests, fuel };
+}
+
+function freeRow(queued, tenant) {
+  const taken = [...queued.values()].filter((request) => request.tenant === tenant).map(({ row }) => row);
+  let row = 0;
+  while (taken.includes(row)) row += 1;
+  return row;
+}
+
+// An answer that is delivered changes what is due, and not always the state.
+function noteState({ states }, at, mode) {
+  if (states[states.length - 1][1] !== mode) states.push([at, mode]);
 }
 
 // A tenant's fuel is noted where it changes.

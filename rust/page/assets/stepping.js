@@ -3,56 +3,59 @@
 let shown = 0;
 
 function show(wanted) {
-  shown = stepFor(Math.min(Math.max(Math.trunc(wanted) || 1, 1), last));
+  shown = stepFor(Math.min(Math.max(wanted, 1), last));
   const step = steps[shown - 1];
   const call = callOf(step);
   const asking = shown >= hiddenStep();
   const before = stateAfter(shown - 1);
   const after = asking ? before : stateAfter(shown);
   const touched = touchedBy(step, call, before, after, asking);
-  showControls();
+  showBar();
   showCall(step, call, asking);
-  if (asking) showQuestion(call, before);
+  if (asking) showQuestion(shown, call, before);
   else showAnswer(step, call, before, after);
-  showQueue(after.queue, asking ? 0 : lookedAt(step), touched.name, asking);
-  showTanks(after.tanks, after.queue, call && call.tenant);
-  showCounters(after.queue, touched);
-  showListing(shown, hiddenStep());
-  markChart(shown, hiddenStep());
+  showQueue(after, asking ? 0 : looksOf(step), touched.name, asking);
+  showTanks(after, call && call.tenant, asking);
+  showCounters(after.queue, touched, asking);
+  showListing();
+  markChart();
+  hideTellings();
   keepAddress();
 }
 
-function showControls() {
+function showBar() {
   byId("at").value = shown;
-  byId("first").disabled = shown === 1;
-  byId("back").disabled = shown === 1;
-  byId("forward").disabled = shown === last;
-  byId("last").disabled = shown === last;
+  byId("now").textContent = lineText(shown);
   byId("score").textContent = scoreWords();
   byId("run").classList.toggle("quiz", quiz.on);
-  hideTellings();
+  // A button that is switched off would lose the focus.
+  for (const id of ["first", "back"]) byId(id).setAttribute("aria-disabled", shown === 1);
+  for (const id of ["forward", "last"]) byId(id).setAttribute("aria-disabled", shown === last);
 }
 
 function showCall(step, call, asking) {
-  const words = call ? callWords(call) : "The file has no call here.";
-  const { answer, burnt, left } = fieldsOf(step);
+  const { call: kind, answer, burnt, left } = fieldsOf(step);
+  const none = kind === "file" ? "The file is not read any further." : "There is no call here.";
+  const words = call ? callWords(call) : none;
   const verdict = quiz.on && !asking && shown === quiz.known ? quiz.verdict : "";
   byId("call").textContent = `Step ${shown}: ${words}`;
   byId("typed").textContent = typedWords(step.call || "");
   byId("question").hidden = !asking;
-  byId("told").hidden = asking;
+  byId("outcome").hidden = asking;
   byId("difference").hidden = asking || !step.difference;
   byId("difference").textContent = step.difference ? `This line differs: ${step.difference}` : "";
   byId("verdict").hidden = verdict === "";
   byId("verdict").textContent = verdict;
-  byId("announced").textContent = `Step ${shown} of ${last}. ${words} ${verdict} ${
-    asking ? "What does it answer, and what does it burn?" : `Answer ${answer}, burnt ${burnt}, left ${left}.`}`;
+  const outcome = asking ? "What does it answer, and what does it burn?" : `Answer ${answer}, burnt ${burnt}, left ${left}.`;
+  byId("announced").textContent = [`Step ${shown} of ${last}.`, words, verdict, outcome].filter(Boolean).join(" ");
 }
 
 const TYPED_AT_MOST = 200;
 
+// A long call is cut between two words.
 function typedWords(call) {
-  return call.length > TYPED_AT_MOST ? `${call.slice(0, TYPED_AT_MOST)} ...` : call;
+  if (call.length <= TYPED_AT_MOST) return call;
+  return `${call.slice(0, call.lastIndexOf(" ", TYPED_AT_MOST))} ...`;
 }
 
 function showAnswer(step, call, before, after) {
@@ -60,73 +63,78 @@ function showAnswer(step, call, before, after) {
   byId("answer").textContent = answer || "no answer";
   byId("burnt").textContent = burnt || "?";
   byId("left").textContent = left || "?";
+  byId("whose").textContent = call && fuelOf(after, call.tenant) !== null ? ` in the tank of tenant ${call.tenant}` : "";
   // Where the answer is not the second program's, its state does not explain it.
   byId("meaning").textContent = step.difference ? "" : meaningOf(step, call, before, after);
-  const { parts, besides } = priceWords(step, call, before, after);
-  const sum = `${parts.map(({ units }) => units).join(" + ")} = ${priceOf(step)}`;
-  const paid = parts.map(({ units, what }) => element("li", {}, element("b", {}, `${units}`), ` ${what}`));
-  byId("price").replaceChildren(
-    ...(parts.length > 1 ? [element("p", { class: "sum" }, sum)] : []),
-    element("ol", {}, ...paid),
-    ...(besides ? [element("p", {}, besides)] : []),
-    ...disagreements(step, call, after).map((words) => element("p", { class: "different" }, words)));
-  byId("said").replaceChildren(...(step.said || []).map((words) => element("p", {}, words)));
+  byId("price").replaceChildren(...priceParts(step, call, before, after));
+  const said = (step.said || []).map((words) => element("p", {}, words));
+  byId("said").replaceChildren(...(said.length > 0 ? [element("h4", {}, "The file's comment"), ...said] : []));
+}
+
+function priceParts(step, call, before, after) {
+  const { parts, besides } = step.difference ? { parts: [], besides: "" } : priceWords(step, call, before, after);
+  const units = parts.map((part) => part.units);
+  const shownParts = [];
+  if (parts.length > 1) shownParts.push(element("p", { class: "sum" }, `${units.join(" + ")} = ${priceOf(step)}`));
+  if (parts.length > 0) {
+    const items = parts.map((part) => element("li", {}, element("b", {}, `${part.units}`), ` ${part.what}`));
+    shownParts.push(element("ol", {}, ...items));
+  }
+  if (besides) shownParts.push(element("p", {}, besides));
+  const wrong = disagreements(step, call, after).map((words) => element("p", { class: "different" }, words));
+  return [...shownParts, ...wrong];
 }
 
 // What the page shows is held to the line: the sum to the units burnt, the tank to the fuel left.
 function disagreements(step, call, after) {
   const { burnt, left } = fieldsOf(step);
-  const tank = call && after.tanks.find(({ tenant }) => tenant === call.tenant);
+  const fuel = call && fuelOf(after, call.tenant);
   const wrong = [];
   if (burnt !== `${priceOf(step)}`) wrong.push(`The sum is ${priceOf(step)}, and the listing has ${burnt}.`);
-  if (tank && left !== `${tank.granted - tank.burnt}`) {
-    wrong.push(`The tank has ${tank.granted - tank.burnt}, and the listing has ${left}.`);
-  }
+  if (fuel !== null && left !== `${fuel}`) wrong.push(`The tank has ${fuel}, and the listing has ${left}.`);
   return wrong;
 }
 
 // The entry that a step is about, with its records: that which the answer or the call names, after the call or before it.
 function touchedBy(step, call, before, after, asking) {
   const name = (!asking && nameIn(fieldsOf(step).answer)) || (call && call.name);
-  const entry = [...after.queue, ...before.queue].find((known) => known.name === name);
-  return entry || { name: "", reads: [], writes: [] };
-}
-
-function lookedAt(step) {
-  const looks = (step.bill || []).find(([word]) => word === "looks");
-  return looks ? looks[2] : 0;
+  return entryNamed(after, name) || entryNamed(before, name) || { name: "", reads: [], writes: [] };
 }
 
 let keeping = 0;
 
-// The address follows a little later: a browser takes it ill if it changes many times a second.
+// The address follows a little later: a browser takes it ill if it changes many times a second. One that a link has changed in the
+// meantime is followed, and not kept.
 function keepAddress() {
+  const { hash } = location;
   clearTimeout(keeping);
   keeping = setTimeout(() => {
-    if (location.hash !== `#${shown}`) history.replaceState(null, "", `#${shown}`);
+    if (location.hash === hash && hash !== `#${shown}`) history.replaceState(null, "", `#${shown}`);
   }, 150);
 }
 
-// The step that the address names is shown, and brought into sight: a link to it may stand far from the run.
+// The step that the address names is shown and brought into sight: a link to it may stand far from the run.
 function followAddress() {
   const found = /^#(\d+)$/.exec(location.hash);
   if (!found) return;
-  step(Number(found[1]));
-  const { top, bottom } = byId("call").getBoundingClientRect();
-  if (top < 0 || bottom > window.innerHeight) byId("run").scrollIntoView();
+  show(Number(found[1]));
+  const { top, height } = byId("call").parentElement.getBoundingClientRect();
+  const seen = top >= byId("bar").offsetHeight && top + Math.min(height, 200) <= window.innerHeight;
+  if (!seen) byId("run").scrollIntoView();
+  byId("call").focus({ preventScroll: true });
 }
 
-// Shows a step; where it is asked about, the first choice is ready to be taken by the keyboard.
-function step(wanted) {
+// Shows a step; where it is asked about, the keyboard is led to the question.
+function go(wanted) {
+  const posed = quiz.posed;
   show(wanted);
-  const choice = byId("question").querySelector("input");
-  if (!byId("question").hidden && document.activeElement !== byId("at")) choice.focus({ preventScroll: true });
+  if (quiz.posed !== posed && document.activeElement !== byId("at")) byId("call").focus({ preventScroll: true });
 }
 
 function answered(chosen) {
   judge(shown, chosen);
   show(shown);
-  byId(shown === last ? "call" : "forward").focus();
+  byId("forward").focus({ preventScroll: true });
 }
 
 const KEYS = { ArrowLeft: () => shown - 1, ArrowRight: () => shown + 1, Home: () => 1, End: () => last };
@@ -139,31 +147,41 @@ function onKey(event) {
   const wanted = KEYS[event.key] || (lines.contains(event.target) && LISTING_KEYS[event.key]);
   if (!wanted) return;
   event.preventDefault();
-  step(wanted());
+  go(wanted());
+}
+
+// A line that is opened elsewhere, in a tab of its own, is the browser's.
+function onLine(event) {
+  const link = event.target.closest("a");
+  if (!link || event.ctrlKey || event.metaKey || event.shiftKey || event.altKey) return;
+  event.preventDefault();
+  go(Number(link.hash.slice(1)));
 }
 
 function onAsk() {
   if (byId("ask").checked) startQuiz(shown);
   else quiz.on = false;
-  show(shown);
+  show(quiz.on ? Math.min(shown, quiz.known) : shown);
+}
+
+function onCheck(event) {
+  event.preventDefault();
+  const { answer, units } = byId("question").elements;
+  const { textContent } = byId("question").querySelector(":checked").parentElement;
+  answered({ answer: answer.value, words: textContent, units: `${Number(units.value)}` });
 }
 
 function listen() {
-  byId("first").addEventListener("click", () => step(1));
-  byId("back").addEventListener("click", () => step(shown - 1));
-  byId("forward").addEventListener("click", () => step(shown + 1));
-  byId("last").addEventListener("click", () => step(last));
-  byId("at").addEventListener("change", () => step(Number(byId("at").value)));
-  byId("drawing").addEventListener("click", (event) => step(stepUnder(event)));
+  byId("first").addEventListener("click", () => go(1));
+  byId("back").addEventListener("click", () => go(shown - 1));
+  byId("forward").addEventListener("click", () => go(shown + 1));
+  byId("last").addEventListener("click", () => go(last));
+  byId("at").addEventListener("change", () => go(Math.trunc(byId("at").value) || shown));
+  byId("drawing").addEventListener("click", (event) => go(stepUnder(event)));
   byId("ask").addEventListener("change", onAsk);
-  byId("question").addEventListener("submit", (event) => {
-    event.preventDefault();
-    const { answer, units } = byId("question").elements;
-    answered({ answer: answer.value, units: `${Number(units.value)}` });
-  });
-  byId("question").addEventListener("click", (event) => {
-    if (event.target.id === "give-up") answered(null);
-  });
+  byId("question").addEventListener("submit", onCheck);
+  byId("question").addEventListener("click", (event) => event.target.id === "give-up" && answered(null));
+  lines.addEventListener("click", onLine);
   document.addEventListener("keydown", onKey);
   window.addEventListener("hashchange", followAddress);
 }
@@ -171,19 +189,19 @@ function listen() {
 // What has a place of its own is laid out again where that place has changed.
 function layOut() {
   drawConflicts();
-  showListing(shown, hiddenStep());
+  showListing();
   if (byId("drawing").clientWidth !== chart.width) drawChart();
-  markChart(shown, hiddenStep());
+  markChart();
 }
 
 function sayDifferent() {
   const different = [run, ...steps].filter(({ difference }) => difference).length;
+  const told = `The second program differs from the proved listing in ${counted(different, "line")}, in red below.`;
   byId("different").hidden = different === 0;
-  byId("different").textContent =
-    `The second program differs from the proved listing in ${counted(different, "line")}, in red below. ${run.difference || ""}`;
+  byId("different").textContent = run.difference ? `${told} The header: ${run.difference}` : told;
 }
 
-function begin() {
+function start() {
   byId("count").textContent = last.toLocaleString("en");
   byId("at").max = last;
   byId("ask").checked = false;
@@ -206,4 +224,4 @@ function begin() {
   });
 }
 
-begin();
+start();
