@@ -43,6 +43,7 @@ return JSON.stringify({
   tanks: all("#tanks > li").map((tank) => ({
     tenant: Number(tank.dataset.tenant),
     named: text(".tenant", tank),
+    touched: tank.classList.contains("touched"),
     numbers: text(".numbers", tank),
     places: text(".places", tank),
     seats: all(".seat", tank).length,

@@ -4,7 +4,7 @@ import re
 
 from selenium.webdriver.common.keys import Keys
 
-from following import clashes, conflicts_ahead, price, ready, tank_numbers, tank_places, view
+from following import clashes, conflicts_ahead, price, ready, records, tank_numbers, tank_places, view
 from listings import fields, refusal_rows, steps
 from pages import CHAPTERS, EXAMPLES, GENERATED, PageTest, run_of
 
@@ -57,6 +57,7 @@ class EveryStep(PageTest):
             self.assertEqual(view(shown), step.view)
             self.assertEqual(shown["typed"].split()[0], line.call)
         self.check_queue(shown)
+        self.check_marks(shown, line, before)
         self.check_tanks(shown, line, before)
         self.check_price(shown, line, before)
         self.assertNotRegex(str(shown), "undefined|NaN|null|Infinity|object")
@@ -94,6 +95,23 @@ class EveryStep(PageTest):
         self.assertIn(f": {ready(cards, place, fuel)}.", why)
         behind = any(clashes(cards[place], other) for other in cards[place + 1:])
         self.assertEqual("A Recheck says “still”" in why, behind)
+
+    def check_marks(self, shown, line, before):
+        """The entry that the call is about has a frame, its records are marked in the grids, and so is the tank of the tenant named."""
+        words = shown["typed"].split()
+        answered = re.match(r"[a-z]+:(\d+\.\d+)", line.answer)
+        named = ".".join(words[1:3]) if line.call in ("finish", "recheck", "deliver", "evict", "cancel") else ""
+        name = answered[1] if answered else named
+        after, was = ({card["name"]: card for card in state["cards"]} for state in (shown, before))
+        card = after.get(name) or was.get(name) or {"reads": "", "writes": ""}
+        self.assertEqual([found["name"] for found in shown["cards"] if found["touched"]], [name] if name in after else [])
+        self.assertEqual((shown["cxMarked"], shown["csMarked"]), (records(card["writes"]), records(card["reads"])))
+        tenants = [] if line.call in ("open", "pick", "file") else [int(words[1])]
+        self.assertEqual([tank["tenant"] for tank in shown["tanks"] if tank["touched"]],
+                         [tenant for tenant in tenants if tenant in [tank["tenant"] for tank in shown["tanks"]]])
+        for said, counters, name in [("cxSaid", "cx", "Cx, how many write it"), ("csSaid", "cs", "Cs, how many read it")]:
+            more = f" and {len(shown[counters]) - 16} more" if len(shown[counters]) > 16 else ""
+            self.assertEqual(shown[said], f"{name}: {' '.join(shown[counters][:16]) or 'all 0'}{more}")
 
     def check_tanks(self, shown, line, before):
         """What is left is what was granted less what was burnt, and a call's units are the named tenant's alone."""

@@ -186,11 +186,16 @@ function listen() {
   window.addEventListener("hashchange", followAddress);
 }
 
-// What has a place of its own is laid out again where that place has changed.
+let laidOut = 0;
+
+// What is measured is laid out again where the room for it has changed.
 function layOut() {
+  const { clientWidth } = byId("run");
+  if (clientWidth === laidOut) return;
+  laidOut = clientWidth;
   drawConflicts();
   showListing();
-  if (byId("drawing").clientWidth !== chart.width) drawChart();
+  drawChart();
   markChart();
 }
 

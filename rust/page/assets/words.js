@@ -59,8 +59,8 @@ function withWhom(conflicts) {
 // The call as it is made: whether it is refused is not said.
 function callWords(call) {
   switch (call.kind) {
-    case "open": return `The host opens a fresh state with ${sharesWords(call.shares)}.`;
-    case "grant": return `The host grants ${counted(call.amount, "unit")} of fuel to tenant ${call.tenant}.`;
+    case "open": return `The host asks for a fresh state with ${sharesWords(call.shares)}.`;
+    case "grant": return `The host asks to grant ${counted(call.amount, "unit")} of fuel to tenant ${call.tenant}.`;
     case "begin": return `Tenant ${call.tenant} asks to begin a request that ${locksWords(call)}.`;
     case "finish": return `Tenant ${call.tenant} asks to finish ${call.name}.`;
     case "recheck": return `Tenant ${call.tenant} asks for a Recheck of ${call.name}.`;
@@ -80,8 +80,10 @@ function sharesWords(shares) {
     if (group && group.share === share) group.to = at + 1;
     else groups.push({ share, from: at + 1, to: at + 1 });
   });
-  const words = groups.filter(({ share }) => share > 0).map(({ share, from, to }) =>
-    `${counted(share, "place")} for ${from === to ? `tenant ${from}` : `each of tenants ${from} to ${to}`}`);
+  const words = groups.filter(({ share }) => share > 0).map(({ share, from, to }) => {
+    const several = `each of tenants ${from} ${to === from + 1 ? "and" : "to"} ${to}`;
+    return `${counted(share, "place")} for ${from === to ? `tenant ${from}` : several}`;
+  });
   return words.length > 0 ? listed(words) : "no place for anybody";
 }
 
@@ -103,7 +105,7 @@ function meaningOf(step, call, before, after) {
   const entry = entryNamed(after, nameIn(answer));
   switch (call.kind) {
     case "open": return "The queue is empty, all counters are 0, and nobody has fuel.";
-    case "grant": return `It is in the tank of tenant ${call.tenant}.`;
+    case "grant": return `The fuel is in the tank of tenant ${call.tenant}.`;
     case "begin": return beginWords(call, entry, after.queue);
     case "finish":
     case "cancel":
@@ -132,7 +134,7 @@ function refusedBecause(call, number, before) {
   if (number === 9) return `Tenant ${call.tenant} had ${counted(fuel, "unit")}. `;
   if (number === 10) return `${call.name} is not in the queue. `;
   if (number === 11) return `${call.name} is ${WORD[entry.state]}. `;
-  if (number === 12) return `${call.name} has had all its answers. `;
+  if (number === 12) return `${call.name} ${entry.awaited === 0 ? "awaits no answer" : "has had all its answers"}. `;
   return "";
 }
 
@@ -167,7 +169,7 @@ function stillWords(call, after) {
   const entry = entryNamed(after, call.name);
   const { ahead, behind } = conflictsIn(after.queue, entry);
   const still = `${call.name} stays Blocked: by the counters others want its records too, ${withWhom([...ahead, ...behind])}.`;
-  return ahead.length > 0 ? still : `${still} These stand behind it: ${readyWords(entry, after)}.`;
+  return ahead.length > 0 ? still : `${still} But nothing ahead conflicts: ${readyWords(entry, after)}.`;
 }
 
 function foundWords(entry) {
