@@ -130,7 +130,7 @@ function refusedBecause(call, number, before) {
   const tank = before.tanks.find(({ tenant }) => tenant === call.tenant);
   const alone = call.kind === "finish" ? "On a dry tank only a Free request leaves. " : "";
   if (number === 2) return `The tank of tenant ${call.tenant} is empty. ${alone}`;
-  if (number === 7) return `Tenant ${call.tenant} has ${counted(tank.share, "place")}, and all are in use. `;
+  if (number === 7) return `Tenant ${call.tenant} has ${tank.share === 0 ? "no place" : `${counted(tank.share, "place")}, all in use`}. `;
   if (number === 9) return `Tenant ${call.tenant} had ${counted(fuel, "unit")}. `;
   if (number === 10) return `${call.name} is not in the queue. `;
   if (number === 11) return `${call.name} is ${WORD[entry.state]}. `;
