@@ -78,11 +78,13 @@ class Looks(PageTest):
         self.assertEqual(marks, ["", "circle", "path"])
 
     def test_what_differs_is_red(self):
-        self.browser.open(MADE / "special/changed.html", "#8")
-        for selector in ("#different", "#difference", "#lines .differs a"):
-            words = self.browser.run("return getComputedStyle(document.querySelector(arguments[0])).color", selector)
-            red, green, blue = (int(part) for part in words[4:-1].split(","))
-            self.assertTrue(red > 150 and green < 60 and blue < 60, f"{selector}: {words}")
+        for scheme in ("light", "dark"):
+            self.browser.colours(scheme)
+            self.browser.open(MADE / "special/changed.html", "#8")
+            for selector in ("#different", "#difference", "#lines .differs a"):
+                words = self.browser.run("return getComputedStyle(document.querySelector(arguments[0])).color", selector)
+                red, green, blue = (int(part) for part in words[4:-1].split(","))
+                self.assertGreater(red - max(green, blue), 60, f"{scheme} {selector}: {words}")
 
     def test_moving_parts_are_few(self):
         """Whoever wants none has none."""

@@ -4,7 +4,7 @@ import re
 
 from selenium.webdriver.common.keys import Keys
 
-from listings import fields, steps
+from listings import fields, refusal_rows, steps
 from pages import CHAPTERS, EXAMPLES, GENERATED, MADE, PageTest, run_of
 
 FRONT = MADE / "examples/front.html"
@@ -69,10 +69,11 @@ class Quiz(PageTest):
         self.browser.press(Keys.ARROW_RIGHT)
         asked = self.browser.read()
         self.assertTrue(asked["asks"])
-        for name in ("tanks", "cx", "cs"):
+        for name in ("cx", "cs"):
             self.assertEqual(asked[name], before[name])
-        plain = [{**card, "why": "", "touched": False} for card in before["cards"]]
-        self.assertEqual([{**card, "touched": False} for card in asked["cards"]], plain)
+        for name in ("tanks", "cards"):
+            unmarked = [[{**part, "why": "", "touched": False} for part in shown[name]] for shown in (asked, before)]
+            self.assertEqual(*unmarked)
         self.assertEqual(asked["conflicts"], before["conflicts"])
         for part, name in [("queue", "The queue before the call: 2 requests, front first"), ("tanks", "Tanks and places before the call"), ("counters", "Counters before the call")]:
             self.assertEqual(self.browser.find(f"#{part}-name").text, name)
@@ -146,6 +147,70 @@ class Quiz(PageTest):
         lines = self.browser.run("return [...document.querySelectorAll('#lines li')].map((item) => item.innerText)")
         wanted = [step.line if number <= 7 else f"{number} {fields(step.line).call} ? ? ?" for number, step in enumerate(steps(run_of(FRONT)), 1)]
         self.assertEqual(lines, wanted[:len(lines)])
+
+    def test_the_cover_covers(self):
+        self.ask(FRONT, "#7")
+        fill, ground = self.browser.run(
+            "return [getComputedStyle(document.querySelector('.cover')).fill, getComputedStyle(document.querySelector('#chart')).backgroundColor]")
+        self.assertEqual(fill, ground)
+        # The title of a bar tells when its request will be gone.
+        self.browser.run("document.querySelector('#chart').scrollIntoView()")
+        self.assertTrue(self.browser.run(
+            "return [...document.querySelectorAll('.request rect')].every((bar) => {"
+            " const { x, y, height } = bar.getBoundingClientRect();"
+            " return !document.elementFromPoint(x + 1, y + height / 2).closest('.request'); })"))
+
+    def test_marks_do_not_tell(self):
+        """Whom a Begin, a Scan or a Pick will be about is part of the answer."""
+        for page in EXAMPLES:
+            self.ask(page)
+            for _ in steps(run_of(page))[1:]:
+                self.browser.press(Keys.ARROW_RIGHT)
+                shown = self.browser.read()
+                if shown["typed"].split()[0] in ("begin", "scan", "pick"):
+                    marked = [card["name"] for card in shown["cards"] if card["touched"]]
+                    self.assertEqual((marked, shown["cxMarked"], shown["csMarked"]), ([], [], []), (page.name, shown["at"]))
+                self.browser.click("#give-up")
+
+    def test_the_refusals_to_choose_from_are_the_tables(self):
+        rows = refusal_rows()
+        for page in [MADE / "examples/hung.html", MADE / "generated/refusals-25.html"]:
+            self.ask(page)
+            for step in steps(run_of(page))[1:]:
+                call = fields(step.line).call
+                self.browser.press(Keys.ARROW_RIGHT)
+                found = self.browser.run("return [...document.querySelectorAll('#question fieldset label')].map((label) => label.innerText.trim())")
+                wanted = {f"refused: {number}, {meaning}" for (kind, number), (meaning, _) in rows.items() if kind == call and number != "15"}
+                self.assertEqual({words for words in found if words.startswith("refused")}, wanted, call)
+                self.browser.click("#give-up")
+
+    def test_another_refusal_is_wrong(self):
+        self.ask(MADE / "examples/stock.html", "#7")
+        self.browser.press(Keys.ARROW_RIGHT)
+        self.choose("refused:1", "1")
+        self.assertEqual(self.browser.read()["verdict"], "Answer: not refused: 1, the tenant number is not 1 to 16. Units: right.")
+
+    def test_the_verdict_stays_with_its_step(self):
+        self.ask(FRONT, "#7")
+        self.browser.press(Keys.ARROW_RIGHT)
+        self.browser.click("#give-up")
+        self.browser.press(Keys.ARROW_LEFT)
+        self.assertEqual(self.browser.read()["verdict"], "")
+
+    def test_what_differs_is_not_told(self):
+        self.ask(MADE / "special/changed.html", "#7")
+        self.browser.press(Keys.ARROW_RIGHT)
+        self.assertEqual(len(self.browser.read()["red"]), 1)
+        self.assertEqual(self.browser.find_all("#lines .differs"), [])
+
+    def test_the_excerpts_of_each_chapter(self):
+        for page in CHAPTERS:
+            self.browser.open(page)
+            wanted = [max(int(step) for step in re.findall(r'href="#(\d+)"', part.get_attribute("innerHTML")))
+                      for part in self.browser.find_all(".prose:not(.told) pre:has(a)")]
+            self.browser.click("#ask")
+            words = [word.get_attribute("textContent") for word in self.browser.find_all(".prose:not(.told) .untold")]
+            self.assertEqual(words, [f"Told after step {step}." for step in wanted], page.name)
 
     def test_the_box_taken_away_shows_all(self):
         self.ask(FRONT, "#7")

@@ -48,6 +48,18 @@ class Differing(PageTest):
         self.browser.open(CHANGED, "#8")
         self.assertEqual([card["state"] for card in self.browser.read()["cards"]], ["Blocked", "Blocked"])
 
+    def test_an_answer_that_differs_is_not_explained(self):
+        self.browser.open(CHANGED, "#8")
+        self.assertEqual(self.browser.read()["meaning"], "")
+
+    def test_a_header_and_a_tank_that_differ(self):
+        self.browser.open(MADE / "special/left.html", "#9")
+        header = "The second program differs from the proved listing in 2 lines, in red below. The header: "
+        self.assertEqual(self.browser.read()["red"], [
+            header + 'the second program has "no call answer burnt left\\n"',
+            'This line differs: the second program has "9 recheck still 2 22\\n"', "The tank has 22, and the listing has 21."])
+        self.assertIn("differs", self.browser.find("#header").get_attribute("class").split())
+
     def test_the_quiz_goes_through(self):
         self.browser.open(CHANGED, "#7")
         self.browser.click("#ask")
@@ -83,6 +95,16 @@ class Special(PageTest):
             self.assertEqual(shown["price"], "A file refusal burns nothing.")
             self.assertIn("The file is not read any further.", shown["call"])
         self.assertGreaterEqual(seen, {"20", "21", "22", "23"})
+        self.browser.open(MADE / "special/large.html")
+        self.assertIn(f"Refusal 24: {rows[('file', '24')][0]}.", self.browser.read()["meaning"])
+
+    def test_a_refused_open(self):
+        self.browser.open(MADE / "special/closed.html")
+        shown = self.browser.read()
+        self.assertEqual(shown["call"], "Step 1: The host asks for a fresh state with 60 places for tenant 1 and 5 places for tenant 2.")
+        self.assertEqual(shown["meaning"], "The state is a fresh one all the same, in which every share is 0.")
+        self.assertEqual(shown["parts"], [[0, "0 for refusal 14 by the table: not exactly 16 shares, or more than 64 places in all"]])
+        self.assertEqual((self.browser.find("#tanks-name").text, shown["tanks"]), ("No tenant has a place or fuel", []))
 
     def test_long_files_open(self):
         self.assertEqual([page.stem for page in LONG], ["long-picks", "long-queues", "long-scans"])

@@ -8,7 +8,6 @@ from pages import CHAPTERS, INDEX, LONG, MADE, PageTest, run_of
 
 FRONT = MADE / "examples/front.html"
 LAST = 18
-GUTTER = 36  # of the chart, left of its columns
 
 
 class Stepping(PageTest):
@@ -97,55 +96,6 @@ class Stepping(PageTest):
         self.browser.press(Keys.ARROW_LEFT, Keys.HOME, Keys.END)
         self.is_at(5)
 
-    def test_the_chart(self):
-        self.browser.open(FRONT)
-        self.browser.run("document.querySelector('#chart').scrollIntoView()")
-        left, top, width = self.browser.run(
-            "const { left, top, width } = document.querySelector('#drawing svg').getBoundingClientRect(); return [left, top, width]")
-        for step in (1, 7, 8, LAST):
-            self.browser.click_at(left + GUTTER + (width - GUTTER) * (step - 0.5) / LAST, top + 30)
-            self.is_at(step)
-            x, wide = (float(self.browser.find(".cursor").get_attribute(name)) for name in ("x", "width"))
-            self.assertAlmostEqual(x + wide / 2, GUTTER + (width - GUTTER) * (step - 0.5) / LAST, delta=1)
-        # Left of the columns there is no step.
-        self.browser.click("#first")
-        self.browser.run("document.querySelector('#chart').scrollIntoView()")
-        top = self.browser.run("return document.querySelector('#drawing svg').getBoundingClientRect().top")
-        self.browser.press(Keys.ARROW_RIGHT)
-        self.browser.click_at(left + 5, top + 30)
-        self.is_at(2)
-
-    def test_the_bars(self):
-        """Each request's bar goes from its admission to its leaving, and changes with its state."""
-        self.browser.open(MADE / "examples/hung.html")
-        column = (self.browser.run("return document.querySelector('#drawing svg').clientWidth") - GUTTER) / 28
-        bars = {}
-        for name, state, x, width, y in self.browser.run(
-                "return [...document.querySelectorAll('.request rect')].map((part) => [part.parentElement.dataset.name,"
-                " part.getAttribute('class'), ...['x', 'width', 'y'].map((side) => Number(part.getAttribute(side)))])"):
-            start, end = (x - GUTTER) / column + 1, (x + width - GUTTER) / column + 1
-            self.assertAlmostEqual(start, round(start), delta=0.05)
-            self.assertAlmostEqual(end, round(end), delta=0.05)
-            bars.setdefault(name, [y]).append((state, round(start), round(end)))
-        rows = {name: y for name, (y, *_) in bars.items()}
-        self.assertEqual({name: parts for name, (_, *parts) in bars.items()}, {
-            "1.1": [("free", 5, 14)],
-            "2.1": [("blocked", 6, 16), ("free", 16, 18)],
-            "3.1": [("blocked", 7, 17), ("free", 17, 19)],
-            "1.2": [("blocked", 8, 13)],
-            "3.2": [("waiting", 20, 24)],
-            "2.2": [("blocked", 21, 26), ("free", 26, 29)],
-            "3.3": [("blocked", 22, 23)],
-            "1.3": [("free", 28, 29)],
-        })
-        # A row is a place of a tenant's, the lowest that is free.
-        self.assertEqual(sorted(set(rows.values())), [rows["1.1"], rows["1.2"], rows["2.1"], rows["3.1"], rows["3.3"]])
-        self.assertEqual((rows["1.3"], rows["2.2"], rows["3.2"]), (rows["1.1"], rows["2.1"], rows["3.1"]))
-        legend = [entry.text for entry in self.browser.find_all("#legend li")]
-        fuel = [f"t{tenant}, fuel of tenant {tenant}" for tenant in (1, 2, 3)]
-        self.assertEqual(legend, ["Free", "Waiting", "Blocked", *fuel])
-        self.assertEqual(len(self.browser.find_all("#drawing path.fuel")), 3)
-
 
 class Addresses(PageTest):
     def test_a_link_opens_at_its_step(self):
@@ -221,6 +171,15 @@ class Addresses(PageTest):
 
 
 class ByKeyboardAlone(PageTest):
+    def test_said_to_whoever_hears(self):
+        self.browser.open(FRONT, "#8")
+        self.assertEqual(self.browser.run(
+            "const [told, score] = ['announced', 'score'].map((id) => document.getElementById(id));"
+            "return [told.ariaLive, told.checkVisibility(), score.role]"), ["polite", True, "status"])
+        self.assertEqual(self.browser.read()["announced"], "Step 8 of 18. Tenant 2 asks for a Recheck of 2.1. Answer still, burnt 2, left 24.")
+        self.assertEqual(len(self.browser.find_all("h1")), 1)
+        self.assertEqual(self.browser.find("#count").text, "18")
+
     def test_all_that_is_clicked_can_be_reached(self):
         self.browser.open(FRONT, "#7")
         reached = []

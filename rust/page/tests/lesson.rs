@@ -8,6 +8,7 @@ use page::steps::Run;
 use second::listing;
 use std::fs;
 use std::path::Path;
+use std::process::Command;
 
 const TEXT: &str = "\
 # A lesson
@@ -156,6 +157,50 @@ fn the_index_leads_to_the_chapters() {
     at(&lines, "<li><a href=\"2-two.html\">Chapter 2: Go</a></li>");
     assert!(!page.contains("As pages"));
     assert!(!page.contains("<script"));
+}
+
+#[test]
+fn what_the_text_says_is_escaped_and_linked() {
+    let more = "On line\n2, `a<b` and [x](y\"z).\n\n    2 pick <nothing> 0 -\n    2 places <are> free\n    9 pick nothing 0 -\n";
+    let text = TEXT.replace("All is told.\n", more);
+    let lesson = Lesson::of(&text).expect("a right lesson");
+    let page = lesson.page(1, &run());
+    let lines = body(&page);
+    at(
+        &lines,
+        "<a href=\"#2\">2</a>, <code>a&lt;b</code> and <a href=\"../y&quot;z\">x</a>.</p>",
+    );
+    at(&lines, "<pre><a href=\"#2\">2 pick &lt;nothing&gt; 0 -</a>");
+    // Neither a line of the listing nor a step.
+    at(&lines, "2 places &lt;are&gt; free");
+    at(&lines, "9 pick nothing 0 -</pre>");
+}
+
+#[test]
+fn lessonpages_tells_a_listing_that_differs() {
+    let folder = std::env::temp_dir().join(format!("lessonpages-{}", std::process::id()));
+    fs::create_dir(&folder).expect("a folder");
+    let text = b"open 2\npick\n";
+    let events = to_bytes(text).expect("a text");
+    let proved = listing(&events).replace("2 pick nothing", "2 pick free:1.1");
+    fs::write(folder.join("lesson.md"), TEXT).expect("a file");
+    let parts: [(&str, &[u8]); 3] = [
+        ("txt", text),
+        ("events", &events),
+        ("listing", proved.as_bytes()),
+    ];
+    for (kind, bytes) in parts {
+        fs::write(folder.join(format!("one.{}", kind)), bytes).expect("a file");
+    }
+    let mut program = Command::new(env!("CARGO_BIN_EXE_lessonpages"));
+    let arguments = [&folder.join("lesson.md"), &folder, &folder];
+    let output = program.args(arguments).output().expect("it runs");
+    let pages = fs::read_dir(&folder).expect("the folder").count();
+    fs::remove_dir_all(&folder).expect("it is removed");
+    assert_eq!(output.status.code(), Some(1));
+    let said = String::from_utf8_lossy(&output.stderr);
+    assert_eq!(said, "the second program differs on one\n");
+    assert_eq!(pages, 4, "no page was written");
 }
 
 #[test]
