@@ -49,8 +49,11 @@ class Differing(PageTest):
         self.assertEqual([card["state"] for card in self.browser.read()["cards"]], ["Blocked", "Blocked"])
 
     def test_an_answer_that_differs_is_not_explained(self):
-        self.browser.open(CHANGED, "#8")
-        self.assertEqual(self.browser.read()["meaning"], "")
+        for address, priced in [("#7", True), ("#8", False), ("#9", True), ("#10", True)]:
+            self.browser.open(CHANGED, address)
+            shown = self.browser.read()
+            self.assertEqual(shown["meaning"] != "", address in ("#7", "#9"), address)
+            self.assertEqual((shown["price"] != "", self.browser.find("#price-name").is_displayed()), (priced, priced), address)
 
     def test_a_header_and_a_tank_that_differ(self):
         self.browser.open(MADE / "special/left.html", "#9")

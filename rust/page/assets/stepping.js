@@ -66,7 +66,9 @@ function showAnswer(step, call, before, after) {
   byId("whose").textContent = call && fuelOf(after, call.tenant) !== null ? ` in the tank of tenant ${call.tenant}` : "";
   // Where the answer is not the second program's, its state does not explain it.
   byId("meaning").textContent = step.difference ? "" : meaningOf(step, call, before, after);
-  byId("price").replaceChildren(...priceParts(step, call, before, after));
+  const price = priceParts(step, call, before, after);
+  byId("price-name").hidden = price.length === 0;
+  byId("price").replaceChildren(...price);
   const said = (step.said || []).map((words) => element("p", {}, words));
   byId("said").replaceChildren(...(said.length > 0 ? [element("h4", {}, "The file's comment"), ...said] : []));
 }
