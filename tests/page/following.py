@@ -19,14 +19,29 @@ def clashes(one, other):
     return sorted(written | set(own["reads"]) & set(theirs["writes"]))
 
 
+def conflicts(card, others):
+    """Whom of the others a card conflicts with, and on which records."""
+    found = [(other["name"], clashes(card, other)) for other in others if other is not card]
+    return [(name, on) for name, on in found if on]
+
+
 def conflicts_ahead(cards):
     """Of each Blocked card, by name: whom ahead it conflicts with, and on which records."""
     found = {}
     for place, card in enumerate(cards):
         if card["state"] == "Blocked":
-            ahead = [(other["name"], clashes(card, other)) for other in cards[:place]]
-            found[card["name"]] = [(name, on) for name, on in ahead if on]
+            found[card["name"]] = conflicts(card, cards[:place])
     return found
+
+
+def listed(items):
+    """`7`, `7 and 9`, `7, 9 and 12`; of a long list the first twenty."""
+    words = [str(item) for item in items[:20]] + [f"{len(items) - 20} more"] * (len(items) > 20)
+    return " and ".join([", ".join(words[:-1]), words[-1]] if len(words) > 1 else words)
+
+
+def with_whom(found):
+    return listed([f"{name} on record{'s' if len(on) > 1 else ''} {listed(on)}" for name, on in found])
 
 
 def view(shown):
@@ -62,6 +77,11 @@ def tank_numbers(tank):
     found = re.fullmatch(r"granted ([\d,]+) burnt ([\d,]+) left ([\d,]+)", tank["numbers"])
     granted, burnt, left = (int(number.replace(",", "")) for number in found.groups())
     return {"granted": granted, "burnt": burnt, "left": left}
+
+
+def fuel_of(name, shown):
+    """What the tenant of a request has left."""
+    return next(tank_numbers(tank)["left"] for tank in shown["tanks"] if f"{tank['tenant']}" == name.split(".")[0])
 
 
 def tank_places(tank):

@@ -93,6 +93,10 @@ class Quiz(PageTest):
         self.assertEqual(shown["verdict"], "Shown, and not counted as right.")
         self.assertEqual(shown["answer"], "free:2.1")
         self.assertEqual(shown["score"], "right: 1 of 3 answers, 1 of 3 prices")
+        self.browser.press(Keys.ARROW_RIGHT)
+        self.choose("nothing", "1")
+        self.assertEqual(self.browser.read()["verdict"], "Answer: right. Units: not 1.")
+        self.assertEqual(self.browser.read()["score"], "right: 2 of 4 answers, 1 of 4 prices")
 
     def test_nothing_is_checked_before_both_are_chosen(self):
         self.ask(FRONT, "#7")

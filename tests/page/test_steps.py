@@ -4,11 +4,12 @@ import re
 
 from selenium.webdriver.common.keys import Keys
 
-from following import clashes, conflicts_ahead, price, ready, records, tank_numbers, tank_places, view
+from following import clashes, conflicts, conflicts_ahead, fuel_of, price, ready, records, tank_numbers, tank_places, view, with_whom
 from listings import fields, refusal_rows, steps
 from pages import CHAPTERS, EXAMPLES, GENERATED, PageTest, run_of
 
 ROWS = refusal_rows()
+NAMED_AT_MOST = 4
 LABELLED_AT_MOST = 12
 LABELLED_SPAN = 7  # cards, at this width
 ORDINALS = ["front", "2nd", "3rd", *[f"{place}th" for place in range(4, 21)], "21st", "22nd", "23rd", *[f"{place}th" for place in range(24, 31)]]
@@ -57,6 +58,7 @@ class EveryStep(PageTest):
             self.assertEqual(view(shown), step.view)
             self.assertEqual(shown["typed"].split()[0], line.call)
         self.check_queue(shown)
+        self.check_meaning(shown, line)
         self.check_marks(shown, line, before)
         self.check_tanks(shown, line, before)
         self.check_price(shown, line, before)
@@ -76,14 +78,13 @@ class EveryStep(PageTest):
         else:
             labelled = [conflict for conflict in wanted if conflict[0] in touched]
         self.assertEqual(shown["labels"], [f"{on[0]}…" if len(on) > 1 else f"{on[0]}" for _, _, on in labelled])
-        fuel = {str(tank["tenant"]): tank_numbers(tank)["left"] for tank in shown["tanks"]}
         for name, others in ahead.items():
             why = cards[name]["why"]
             if not others:
-                self.check_ready(why, places[name], shown["cards"], fuel[name.split(".")[0]])
-            for other, on in others[:20]:
-                records = re.escape(", ".join(map(str, on[:-1])) + " and " + str(on[-1]) if len(on) > 1 else str(on[0]))
-                self.assertRegex(why, rf"\b{re.escape(other)} on records? {records}\b")
+                self.check_ready(why, places[name], shown["cards"], fuel_of(name, shown))
+            else:
+                many = f"{len(others)} requests ahead: " if len(others) > NAMED_AT_MOST else ""
+                self.assertEqual(why, f"waits for {many}{with_whom(others)}")
         named = [card["place"] for card in shown["cards"]]
         self.assertEqual(named[:len(ORDINALS)], ORDINALS[:len(named)])
 
@@ -95,6 +96,20 @@ class EveryStep(PageTest):
         self.assertIn(f": {ready(cards, place, fuel)}.", why)
         behind = any(clashes(cards[place], other) for other in cards[place + 1:])
         self.assertEqual("A Recheck says “still”" in why, behind)
+
+    def check_meaning(self, shown, line):
+        """Whom a Begin is Blocked by, with the record behind the @, and whom a Recheck counts, ahead and behind."""
+        cards = shown["cards"]
+        if line.call == "begin" and line.answer.startswith("blocked"):
+            lowest = line.answer.split("@")[1]
+            clash = f"it conflicts with {with_whom(conflicts(cards[-1], cards))}. The lowest of these records, {lowest}, stands behind the @."
+            self.assertTrue(shown["meaning"].endswith(f"It is Blocked: {clash}"), shown["meaning"])
+        if line.answer == "still":
+            name = ".".join(shown["typed"].split()[1:])
+            place = [card["name"] for card in cards].index(name)
+            still = f"{name} stays Blocked: by the counters others want its records too, {with_whom(conflicts(cards[place], cards))}."
+            then = f" But nothing ahead conflicts: {ready(cards, place, fuel_of(name, shown))}."
+            self.assertEqual(shown["meaning"], still + ("" if conflicts(cards[place], cards[:place]) else then))
 
     def check_marks(self, shown, line, before):
         """The entry that the call is about has a frame, its records are marked in the grids, and so is the tank of the tenant named."""

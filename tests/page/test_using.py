@@ -111,6 +111,16 @@ class Addresses(PageTest):
         self.browser.driver.back()
         self.is_at(7)
 
+    def test_the_way_back_leads_out_of_the_run(self):
+        """A step replaces the address, and adds nothing to the browser's way back."""
+        self.browser.open(INDEX)
+        self.browser.find("a[href='1-front.html']").click()
+        for step in (2, 3):
+            self.browser.press(Keys.ARROW_RIGHT)
+            self.is_at(step)
+        self.browser.driver.back()
+        self.browser.until(lambda: self.browser.driver.current_url.endswith("/index.html"), "the index is there again")
+
     def test_a_link_right_after_a_key_is_followed(self):
         self.browser.open(FRONT)
         self.browser.run("document.querySelector('#forward').click(); location.hash = '#9'")
