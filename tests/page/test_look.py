@@ -38,6 +38,7 @@ class Looks(PageTest):
                         for selector in clicks:
                             self.browser.click(selector)
                         self.check_width(width)
+                        self.check_scheme(scheme)
                         self.check_contrast()
                         self.browser.picture(PICTURES / f"{scene}-{width}-{scheme}.png")
 
@@ -47,6 +48,13 @@ class Looks(PageTest):
             "return [...document.querySelectorAll('main *')].filter((found) => found.checkVisibility() && !found.closest('svg, pre, .unseen')"
             " && found.getBoundingClientRect().right > window.innerWidth + 1).map((found) => found.outerHTML.slice(0, 100))")
         self.assertEqual(out, [])
+
+    def check_scheme(self, scheme):
+        """In dark, light letters on a dark ground; in light, the other way round."""
+        letters, ground = self.browser.run(
+            "const { color, backgroundColor } = getComputedStyle(document.body);"
+            "return [color, backgroundColor].map((found) => found.match(/\\d+/g).slice(0, 3).reduce((sum, part) => sum + Number(part), 0))")
+        self.assertEqual("dark" if ground < letters else "light", scheme)
 
     def check_contrast(self):
         looked, faint = self.browser.run(CONTRAST)

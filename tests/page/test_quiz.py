@@ -176,7 +176,7 @@ class Quiz(PageTest):
                     self.assertEqual((marked, shown["cxMarked"], shown["csMarked"]), ([], [], []), (page.name, shown["at"]))
                 self.browser.click("#give-up")
 
-    def test_the_refusals_to_choose_from_are_the_tables(self):
+    def test_the_choices_are_the_tables_refusals_and_the_callers_requests(self):
         rows = refusal_rows()
         for page in [MADE / "examples/hung.html", MADE / "generated/refusals-25.html"]:
             self.ask(page)
@@ -186,7 +186,16 @@ class Quiz(PageTest):
                 found = self.browser.run("return [...document.querySelectorAll('#question fieldset label')].map((label) => label.innerText.trim())")
                 wanted = {f"refused: {number}, {meaning}" for (kind, number), (meaning, _) in rows.items() if kind == call and number != "15"}
                 self.assertEqual({words for words in found if words.startswith("refused")}, wanted, call)
+                if call == "scan":
+                    self.assertEqual([words for words in found if not words.startswith("refused")], self.found_by_scan())
                 self.browser.click("#give-up")
+
+    def found_by_scan(self):
+        """What a search may say: of each Blocked request of the caller what it becomes, or nothing."""
+        shown = self.browser.read()
+        tenant = shown["typed"].split()[1]
+        own = [card["name"] for card in shown["cards"] if card["state"] == "Blocked" and card["name"].startswith(f"{tenant}.")]
+        return [*[f"{name} is {state}" for name in own for state in ("Free", "Waiting")], "nothing"]
 
     def test_another_refusal_is_wrong(self):
         self.ask(MADE / "examples/stock.html", "#7")
@@ -217,13 +226,16 @@ class Quiz(PageTest):
             self.assertEqual(words, [f"Told after step {step}." for step in wanted], page.name)
 
     def test_the_box_taken_away_shows_all(self):
-        self.ask(FRONT, "#7")
+        self.ask(FRONT, "#6")
+        self.browser.press(Keys.ARROW_RIGHT)
+        self.choose("done", "0")
+        self.assertEqual(self.browser.read()["score"], "right: 1 of 1 answer, 1 of 1 price")
         self.browser.press(Keys.ARROW_RIGHT)
         self.assertTrue(self.browser.read()["asks"])
         self.browser.click("#ask")
         shown = self.browser.read()
         self.assertEqual((shown["asks"], shown["answer"], shown["score"]), (False, "still", ""))
-        # Ticked again, it begins anew behind the step that is shown.
+        # Ticked again, it begins anew behind the step that is shown, and counts from nothing.
         self.browser.click("#ask")
         self.assertEqual(self.browser.read()["score"], "asks from step 9 on")
         self.browser.press(Keys.ARROW_RIGHT)
