@@ -36,6 +36,12 @@ def run_of(page):
     return page.with_suffix("")
 
 
+def on_each_other(boxes):
+    """The pairs of boxes (left, right, top, bottom) whose letters lie on each other: a line of letters is less high than its box."""
+    return [(one, other) for at, one in enumerate(boxes) for other in boxes[:at]
+            if one[0] < other[1] and other[0] < one[1] and one[2] + 4 < other[3] and other[2] + 4 < one[3]]
+
+
 class PageTest(unittest.TestCase):
     """A test in the browser: wide and light to begin with, and without a message in the console at its end."""
 

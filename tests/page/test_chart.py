@@ -4,11 +4,14 @@ import re
 
 from selenium.webdriver.common.keys import Keys
 
+from browser import NARROW, WIDE
 from following import CARD_STATES, tank_numbers
 from listings import steps
-from pages import EXAMPLES, MADE, PageTest, run_of
+from pages import EXAMPLES, MADE, PageTest, on_each_other, run_of
 
 FRONT = MADE / "examples/front.html"
+CLASH = MADE / "generated/clash-40.html"
+NUMBERED = [FRONT, CLASH, *[MADE / f"generated/{name}.html" for name in ("deep-2", "early-8", "boundary-22")]]
 GUTTER = 36  # left of the columns
 FUEL_HEIGHT = 110
 
@@ -119,3 +122,25 @@ class Chart(PageTest):
         for number in self.browser.find_all(".below"):
             self.assertAlmostEqual(float(number.get_attribute("x")), GUTTER + (int(number.text) - 0.5) * column, delta=1)
         self.assertGreater(len(self.browser.find_all(".below")), 5)
+
+    def test_numbers_can_be_read(self):
+        """None lies on another or is cut off."""
+        for width in (WIDE, NARROW):
+            self.browser.resize(width)
+            for page in NUMBERED:
+                with self.subTest(width=width, page=page.name):
+                    self.browser.open(page)
+                    left, right = self.browser.run(
+                        "const { left, right } = document.querySelector('#drawing').getBoundingClientRect(); return [left, right]")
+                    boxes = self.browser.run(
+                        "return [...document.querySelectorAll('#drawing text:not(.inside)')].map((number) => number.getBoundingClientRect())"
+                        ".map(({ left, right, top, bottom }) => [left, right, top, bottom])")
+                    self.assertGreater(len(boxes), 5)
+                    self.assertEqual(on_each_other(boxes), [])
+                    self.assertTrue(all(left <= box[0] and box[1] <= right for box in boxes), (left, right, boxes))
+
+    def test_whoever_has_had_fuel_has_a_number(self):
+        self.browser.open(CLASH)
+        self.browser.press(Keys.END)
+        granted = [f"t{tank['tenant']}" for tank in self.browser.read()["tanks"] if tank_numbers(tank)["granted"] > 0]
+        self.assertEqual([number.text for number in self.browser.find_all("#drawing .number")], granted)

@@ -3,13 +3,14 @@
 from selenium.webdriver.common.action_chains import ActionChains
 from selenium.webdriver.common.keys import Keys
 
-from browser import NARROW
+from browser import NARROW, WIDE
 from listings import steps
-from pages import MADE, PageTest, run_of
+from pages import MADE, PageTest, on_each_other, run_of
 
 FRONT = MADE / "examples/front.html"
 HUNG = MADE / "examples/hung.html"
 FULL = MADE / "generated/deep-2.html"
+LABELLED = [HUNG, *[MADE / f"generated/{name}.html" for name in ("boundary-20", "overlap-5", "remote-11", "worst-17")]]
 
 # Of each line: who waits for whom, and on which cards it begins, ends, and has its head.
 LINES = """
@@ -22,6 +23,20 @@ return [...document.querySelectorAll('.conflict')].map((line) => [
   line.dataset.from, line.dataset.to,
   cardAt(top + line.getPointAtLength(0).y), cardAt(top + line.getPointAtLength(line.getTotalLength()).y),
   cardAt(top + line.nextElementSibling.getBBox().y + 4), getComputedStyle(line).stroke !== 'none']);
+"""
+
+# At each step of a run: the border, where the cards begin, where the labels stand, and where each line has one the lines' middles.
+LABELS = """
+const sides = (found) => (({ left, right, top, bottom }) => [left, right, top, bottom])(found.getBoundingClientRect());
+const middle = (line) => (({ x, y }) => [x, y])(line.getPointAtLength(line.getTotalLength() / 2).matrixTransform(line.getScreenCTM()));
+const found = [];
+for (let at = 1; at <= document.querySelector('#at').max; at += 1) {
+  if (at > 1) document.querySelector('#forward').click();
+  const [labels, lines] = ['.on', '.conflict'].map((kind) => [...document.querySelectorAll(kind)]);
+  const [[border], [cards]] = ['#queue', '#cards'].map((part) => sides(document.querySelector(part)));
+  found.push([border, cards, labels.map(sides), lines.length === labels.length ? lines.map(middle) : []]);
+}
+return found;
 """
 
 
@@ -65,16 +80,23 @@ class Lines(PageTest):
             "return [...document.querySelectorAll(`.conflict.${arguments[0]}`)].map(({ dataset }) => [dataset.from, dataset.to])", kind)
 
     def test_labels_can_be_read(self):
-        """Where there are labels, none lies on another or under a card."""
-        for page, address in [(HUNG, "#9"), (MADE / "examples/which.html", "#8"), (MADE / "generated/stuck-8.html", "#40")]:
-            self.browser.open(page, address)
-            boxes = self.browser.run(
-                "return [...document.querySelectorAll('.on')].map((label) => label.getBoundingClientRect()).map(({ left, right, top, bottom }) => [left, right, top, bottom])")
-            edge = self.browser.run("return document.querySelector('#cards').getBoundingClientRect().left")
-            for at, (left, right, top, bottom) in enumerate(boxes):
-                self.assertLessEqual(right, edge)
-                for other in boxes[:at]:
-                    self.assertFalse(left < other[1] and other[0] < right and top < other[3] and other[2] < bottom, (page.name, boxes))
+        """At no step does a label lie on another or under a card, or is cut off; where each line has one, it stands by the line's middle."""
+        for width in (WIDE, NARROW):
+            self.browser.resize(width)
+            for page in LABELLED:
+                self.browser.open(page)
+                found = self.browser.run(LABELS)
+                self.assertGreater(max(len(labels) for _, _, labels, _ in found), 3)
+                for at, (border, cards, labels, middles) in enumerate(found, 1):
+                    with self.subTest(width=width, page=page.name, step=at):
+                        self.check_labels(border, cards, labels, middles)
+
+    def check_labels(self, border, cards, labels, middles):
+        self.assertEqual(on_each_other(labels), [])
+        for left, right, _, _ in labels:
+            self.assertTrue(border - 0.5 <= left and right <= cards + 0.5, (left, right))
+        for (left, right, top, bottom), (x, y) in zip(labels, middles):
+            self.assertTrue(left - 1 <= x <= right + 1 and abs(y - (top + bottom) / 2) <= 30, (left, right, top, bottom, x, y))
 
 
 class Marks(PageTest):

@@ -29,7 +29,17 @@ function drawChart() {
   chart.plot = svgElement("svg", { width: chart.width, height: height + BELOW, "aria-hidden": "true" },
     patterns(), ...numbers, ...stepNumbers(height + 14), ...bars, ...fuelLines(fuel, fuelTop), chart.cover, chart.cursor);
   place.replaceChildren(chart.plot);
+  thinOut(chart.plot.querySelectorAll(".tick, .number"));
   showLegend(fuel);
+}
+
+// Of numbers that would lie on each other the first stays, and none that would be cut off.
+function thinOut(numbers) {
+  const kept = [];
+  for (const [number, box] of [...numbers].map((found) => [found, found.getBBox()])) {
+    if (boxUnder(kept, box) || box.x + box.width > chart.width) number.remove();
+    else kept.push(box);
+  }
 }
 
 // The rows of the tenants, each as many as it had places in use at once.
@@ -89,7 +99,7 @@ function bar({ name, from, to, states }, y, height) {
   return made;
 }
 
-// A line for each tenant, with its number where it first has fuel.
+// A line for each tenant, with its number where it first has fuel, if ever and if there is room: the legend names them all.
 function fuelLines(fuel, top) {
   const most = [...fuel.values()].flat().reduce((high, [, left]) => Math.max(high, left), 1);
   const height = (left) => top + FUEL_HEIGHT * (1 - left / most);
@@ -100,14 +110,12 @@ function fuelLines(fuel, top) {
     });
     return svgElement("path", { class: `fuel tenant-${tenant}`, d: `M${parts.join("L")}` });
   };
-  const number = ([tenant, noted]) => {
-    const [at, left] = noted.find(([, units]) => units > 0) || noted[0];
-    return svgElement("text", { class: `number tenant-${tenant}`, x: columnStart(at) + 2, y: height(left) - 3 }, `t${tenant}`);
-  };
+  const number = ([tenant, noted]) => noted.filter(([, left]) => left > 0).slice(0, 1).map(([at, left]) =>
+    svgElement("text", { class: `number tenant-${tenant}`, x: columnStart(at) + 2, y: height(left) - 3 }, `t${tenant}`));
   const axis = svgElement("path", { class: "axis", d: `M${GUTTER} ${height(0)}H${chart.width}` });
   const short = most < 100000 ? `${most}` : most.toExponential(0).replace("e+", "e");
   const ticks = [tick("0", GUTTER - 6, height(0) + 4), tick(short, GUTTER - 6, height(most) + 6)];
-  return [axis, ...ticks, ...[...fuel].map(line), ...[...fuel].map(number)];
+  return [axis, ...ticks, ...[...fuel].map(line), ...[...fuel].flatMap(number)];
 }
 
 // Whose line is whose, and which state is which.

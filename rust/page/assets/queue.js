@@ -74,8 +74,7 @@ function why(entry, state, ahead, behind) {
   return words;
 }
 
-// A curve for each conflict, from the card that waits to the one ahead; the further apart the two, the wider it swings. Two
-// curves have their middles at the same height only if one spans more cards, so that their labels stand apart.
+// A curve for each conflict, from the card that waits to the one ahead; the further apart the two, the wider it swings.
 function drawConflicts() {
   const width = conflictLines.clientWidth;
   conflictLines.style.height = `${cards.offsetHeight}px`;
@@ -83,9 +82,22 @@ function drawConflicts() {
   const reach = Math.min(34, (width - 16) / 0.75 / widest);
   const many = shownConflicts.length > LABELLED_AT_MOST || reach < LEAST_REACH;
   const drawn = shownConflicts.map((conflict) => curve(conflict, width, 14 + reach * (conflict.from - conflict.to)));
-  const labelled = drawn.filter(({ own }) => own || !many);
+  const labels = drawn.filter(({ own }) => own || !many).map(({ label }) => label);
   conflictLines.classList.toggle("many", many);
-  conflictLines.replaceChildren(...drawn.flatMap(({ line, head }) => [line, head]), ...labelled.map(({ label }) => label));
+  conflictLines.replaceChildren(...drawn.flatMap(({ line, head }) => [line, head]), ...labels);
+  setApart(labels, width);
+}
+
+// A label stands at the middle of its line, but between border and cards, and below those that it would lie on.
+function setApart(labels, width) {
+  const placed = [];
+  for (const [label, box] of labels.map((found) => [found, found.getBBox()])) {
+    const own = { x: Math.max(0, Math.min(box.x, width - box.width)), y: box.y, width: box.width, height: box.height };
+    for (let under = boxUnder(placed, own); under; under = boxUnder(placed, own)) own.y = under.y + under.height;
+    label.setAttribute("x", own.x + own.width / 2);
+    label.setAttribute("dy", own.y - box.y);
+    placed.push(own);
+  }
 }
 
 function curve({ from, to, names, records }, width, swing) {
@@ -98,7 +110,7 @@ function curve({ from, to, names, records }, width, swing) {
     own,
     line: svgElement("path", { class: own ? "conflict own" : "conflict", "data-from": names[0], "data-to": names[1], d: path }),
     head: svgElement("path", { class: "head", d: `M${width} ${end}l-7 -4v8z` }),
-    label: svgElement("text", { class: "on", x: Math.max(14, width - 0.75 * swing), y: (start + end) / 2 + 4 }, label),
+    label: svgElement("text", { class: "on", x: width - 0.75 * swing, y: (start + end) / 2 + 4 }, label),
   };
 }
 

@@ -32,6 +32,12 @@ function bringIntoSight(box, top, height) {
   if (top + height > box.scrollTop + box.clientHeight) box.scrollTop = top + 1.5 * height - box.clientHeight;
 }
 
+// The first of these boxes on whose letters those of another would lie: they are less high than a box, and have a border.
+function boxUnder(boxes, { x, y, width, height }) {
+  return boxes.find((other) =>
+    x < other.x + other.width + 2 && other.x < x + width + 2 && y + 3 < other.y + other.height && other.y + 3 < y + height);
+}
+
 // The fields of the proved line of a step, or none.
 function fieldsOf(step) {
   const [number, call, answer, burnt, left] = (step.line || "").split(" ");
