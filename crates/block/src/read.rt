@@ -119,7 +119,7 @@ fn entries_from(b: &[u8], n: usize) -> [Entry; 64]
 }
 
 // The maps of the records that the entries write, and that they read.
-#[derive(Drop)]
+#[derive(Clone, Copy)]
 struct Marked {
     written: [u64; 4],
     read: [u64; 4],

@@ -1,5 +1,6 @@
 // Prints the listings of the files 00, 01, .. of its folder, one behind the other, until there is no such file, or until a
 // listing cannot be written, which it says on standard error. It is run in a copy of data/.
+#![tactic(auto)]
 
 // The last digit of a number.
 fn digit(n: u8) -> u8 {

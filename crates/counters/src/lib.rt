@@ -1,5 +1,7 @@
 // The counters of the records, Cx or Cs: one for each record. They are lent: raised where a request joins, lowered where it
 // leaves; and the verdicts that are told from them.
+#![tactic(auto)]
+
 ghost use Rattle.std.specs.Prelude.{◌≡◌, ◌≤◌, ◌<◌, eqb, ltb, length, take};
 ghost use Rattle.rules.specs.Lists.{some, every};
 ghost use Rattle.rules.specs.Request.{requested};

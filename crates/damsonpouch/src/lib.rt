@@ -1,6 +1,8 @@
 // The ten calls on a lent block, held, and the check, for a host in Rust or C to link. Each takes any bytes, any numbers and lists of
 // any length. A call on a block that is not sound is refused with 15, burns nothing and writes nothing; on a sound block it does
 // to the block what the manager's call does to the state.
+#![tactic(auto)]
+
 ghost use Rattle.std.specs.Prelude.{◌≡◌, length};
 ghost use Rattle.rules.specs.Prices.{prices_of};
 ghost use Rattle.rules.specs.Calls.{begin_of, finish_of, recheck_of, scan_of, open_of, grant_of, pick_of, deliver_of, evict_of, cancel_of};
@@ -17,7 +19,7 @@ use rules::Answer;
 // 2 Blocked) and name. Clashed is 1 in the reply of a Begin that is Blocked, and lowest is then the lowest record that it clashed
 // on. What a kind does not have is 0.
 #[repr(C)]
-#[derive(Drop)]
+#[derive(Clone, Copy)]
 pub struct Reply {
     pub kind: u8,
     pub number: u8,
@@ -111,7 +113,7 @@ pub extern "C" fn damsonpouch_sound(b: &[u8]) -> bool
 // How many records are held: written by some queued entry, read by some, and either. The number is 0, or 15, and the counts then
 // are 0.
 #[repr(C)]
-#[derive(Drop)]
+#[derive(Clone, Copy)]
 pub struct Held {
     pub number: u8,
     pub written: u16,

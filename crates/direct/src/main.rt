@@ -1,5 +1,7 @@
 // Makes the ten calls and held directly, each on the state that the one before gave back, and prints a line for each. It
 // reaches what no event file can: refusal 8, shares that are not 16, and held.
+#![tactic(auto)]
+
 ghost use Rattle.std.specs.Prelude.{◌≤◌};
 ghost use Rattle.manager.specs.State.{Sound};
 

@@ -1,4 +1,6 @@
 // One request as a slot of the queue holds it; tests of lent lists, and what is stored of them; when two entries conflict.
+#![tactic(auto)]
+
 ghost use Rattle.std.specs.Prelude.{◌≡◌, ◌&&◌, map, ◌≤◌, ◌<◌, min, eqb, ltb, length, take};
 ghost use Rattle.rules.specs.declared.Mode.TheVariants.{Free};
 ghost use Rattle.rules.specs.Lists.{if◌then◌else◌};
@@ -11,7 +13,7 @@ ghost use Rattle.entry.specs.Touch.{touch_at};
 use rules::{Answer, Mode};
 
 // `serial` stands first: an entry then takes 24 bytes, and not 26.
-#[derive(Drop)]
+#[derive(Clone, Copy)]
 pub struct Entry {
     pub serial: u16,
     pub tenant: u8,
@@ -109,7 +111,7 @@ fn kept(list: &[u8]) -> [u8; 8]
 }
 
 // Records at the front of an array of 8, and how many they are.
-#[derive(Drop)]
+#[derive(Clone, Copy)]
 struct Sieved {
     n: u8,
     list: [u8; 8],
@@ -289,7 +291,7 @@ pub fn size(e: Entry) -> usize
 }
 
 // What an entry does to a record.
-#[derive(Drop)]
+#[derive(Clone, Copy)]
 struct Touch {
     which: u8,
     writes: bool,

@@ -1,4 +1,6 @@
 // The reader of an event file: what record stands at a position, and the parts of its body.
+#![tactic(auto)]
+
 ghost use Rattle.std.specs.Prelude.{◌≡◌, [], ◌+◌, ◌≤◌, ◌<◌, length, take, drop};
 ghost use Rattle.rules.specs.Refusals.{first_of};
 ghost use Rattle.rules.specs.Lists.{if◌then◌else◌};
@@ -12,14 +14,14 @@ ghost use Rattle.events.specs.Events.{within, standing, shares_part, reads_part,
 use rules::{Event, Kind};
 
 // Which call a tag is.
-#[derive(Drop)]
+#[derive(Clone, Copy)]
 enum Tagged {
     Known(Kind),
     Unknown,
 }
 
 // What stands at a position: an event and the position of the next record; a refusal's number; nothing any more.
-#[derive(Drop)]
+#[derive(Clone, Copy)]
 pub enum Next {
     Call(Event, usize),
     Refused(u8),
@@ -104,7 +106,7 @@ fn kind_of(tag: u8) -> Tagged
 
 // The row of a call: whether it opens a new sequence of calls, whether its body has lists of records, and how many bytes its
 // body has if not.
-#[derive(Drop)]
+#[derive(Clone, Copy)]
 struct Shape {
     opens: bool,
     lists: bool,

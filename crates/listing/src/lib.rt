@@ -1,4 +1,6 @@
 // One line of the listing as bytes, at the front of an array of 64.
+#![tactic(auto)]
+
 ghost use Rattle.std.specs.Prelude.{[], ◌∷◌, ◌+◌, ◌≤◌, ◌<◌, length};
 ghost use Rattle.rules.specs.declared.Answer.TheVariants.{Refused, Named, BlockedOn};
 ghost use Rattle.rules.specs.CallTable.{row_of};
@@ -10,21 +12,21 @@ ghost use Rattle.listing.specs.Written.{Written, Appended, Ends};
 use rules::{Answer, Kind, Mode};
 
 // The first `len` bytes are the line, with its line feed. The longest has 10 + 1 + 7 + 1 + 21 + 1 + 10 + 1 + 10 + 1 = 63.
-#[derive(Drop)]
+#[derive(Clone, Copy)]
 pub struct Line {
     pub len: usize,
     pub bytes: [u8; 64],
 }
 
 // What a line is printed under: the name of a call, or `file` for a file refusal.
-#[derive(Drop)]
+#[derive(Clone, Copy)]
 pub enum Name {
     Call(Kind),
     File,
 }
 
 // The named tenant's fuel, or that no valid tenant is named.
-#[derive(Drop)]
+#[derive(Clone, Copy)]
 pub enum Left {
     Fuel(u32),
     Nobody,
@@ -72,7 +74,7 @@ fn with_text(l: Line, text: &[u8]) -> Line
 }
 
 // The decimal digits of a number, at the end of their array.
-#[derive(Drop)]
+#[derive(Clone, Copy)]
 struct Digits {
     at: usize,
     bytes: [u8; 10],

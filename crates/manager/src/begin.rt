@@ -66,7 +66,7 @@ fn late(m: Meter, held: usize, e: Entry) -> u8
 }
 
 // What refuses a request, 0 if nothing does, and the entry that it asks for, which has no serial yet.
-#[derive(Drop)]
+#[derive(Clone, Copy)]
 struct Judged {
     number: u8,
     entry: Entry,
@@ -94,7 +94,7 @@ fn judge(who: u8, m: Meter, held: usize, awaited: u8, reads: &[u8], writes: &[u8
 }
 
 // The entry that joins, and what Begin answers with.
-#[derive(Drop)]
+#[derive(Clone, Copy)]
 struct Joining {
     entry: Entry,
     answer: Answer,

@@ -1,5 +1,7 @@
 // The lock manager: ten calls on a state by value. Each gives the state after it, in which its answer and the units burnt
 // are said, and its contract says that these are the law book's.
+#![tactic(auto)]
+
 use entry::Entry;
 use meter::Meter;
 use rules::Answer;
@@ -21,7 +23,7 @@ pub mod scan;
 pub mod tenants;
 
 // What a call answered, and the units that it burnt.
-#[derive(Drop)]
+#[derive(Clone, Copy)]
 pub struct Said {
     pub answer: Answer,
     pub burnt: u32,
@@ -29,7 +31,7 @@ pub struct Said {
 
 // The counters Cx and Cs of the records, the maps of the records with Cx and with Cs above 0, the meters of the tenants 1 to 16,
 // the queue in its first `count` slots, front first, and what the last call said.
-#[derive(Drop)]
+#[derive(Clone, Copy)]
 pub struct State {
     pub cx: [u8; 256],
     pub cs: [u8; 256],

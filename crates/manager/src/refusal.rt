@@ -25,7 +25,7 @@ fn burns(number: u8, fuel: u32) -> u32
 }
 
 // The meters once a refused call has paid, and what it says.
-#[derive(Drop)]
+#[derive(Clone, Copy)]
 pub struct Bill {
     pub meters: [Meter; 16],
     pub said: Said,

@@ -1,11 +1,13 @@
 // A set of the records 0 to 255 as four words, one bit a record. A map is lent to whoever looks at it or changes it.
+#![tactic(auto)]
+
 ghost use Rattle.std.specs.Prelude.{◌≤◌, ◌<◌, ◌≡◌, [], ◌∷◌, length, take};
 ghost use Rattle.rules.specs.Lists.{some};
 ghost use Rattle.rules.specs.Clash.{how_many};
 ghost use Rattle.maps.specs.Maps.{in_map, clash_in, Empty, Grown, Without, Union, ClashBits, LowestBit, BitsCounted, IsLowest};
 
 // The lowest record that passes a test, or that none does.
-#[derive(Drop)]
+#[derive(Clone, Copy)]
 pub enum Low {
     At(u8),
     Nothing,

@@ -1,10 +1,12 @@
 // A tenant's meter: the fuel that is left, the serials given so far, and the share of the queue's places.
 // Each contract says what the law book's function makes of the meter.
+#![tactic(auto)]
+
 ghost use Rattle.std.specs.Prelude.{◌≡◌, ◌≤◌, ◌<◌, ◌+◌, ◌-◌};
 ghost use Rattle.rules.specs.Table.{spent, new_meter, granted, numbered};
 ghost use Rattle.meter.specs.View.{meter_view};
 
-#[derive(Drop)]
+#[derive(Clone, Copy)]
 pub struct Meter {
     pub fuel: u32,
     pub serials: u16,

@@ -1,4 +1,6 @@
 // One step of an event file: the call that stands at a position is made, and its line written.
+#![tactic(auto)]
+
 ghost use Rattle.std.specs.Prelude.{◌≡◌, []};
 ghost use Rattle.manager.specs.State.{view, Sound};
 ghost use Rattle.manager.specs.Runs.{DidCall};
@@ -15,7 +17,7 @@ mod piece;
 pub mod print;
 
 // The state after a step, the line of its record, where the next record begins, and whether the reading goes on.
-#[derive(Drop)]
+#[derive(Clone, Copy)]
 struct Stepped {
     pub state: State,
     pub line: Line,

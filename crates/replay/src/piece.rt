@@ -10,7 +10,7 @@ use rules::Answer;
 
 // The place that a listing has come to: the state, the position and the number of the next record, whether it is the first
 // and whether there is more to list; and how many bytes of the piece are written.
-#[derive(Drop)]
+#[derive(Clone, Copy)]
 pub struct Place {
     pub state: State,
     pub at: usize,

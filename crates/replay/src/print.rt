@@ -6,7 +6,7 @@ use super::piece;
 use libc::STDOUT_FILENO;
 
 // What came of it: whether all of the listing was written, and how many of its bytes were before the first piece that was not.
-#[derive(Drop)]
+#[derive(Clone, Copy)]
 pub struct Printed {
     pub all: bool,
     pub bytes: usize,

@@ -2,6 +2,8 @@
 // letter (r for rounds, s for scans, another for neither), a byte with the number of entries held, at most 63, and two
 // bytes with the number of rounds or scans, high first. What it prints shows that the work was done: tenant 1's fuel and
 // serials, and how many entries are queued.
+#![tactic(auto)]
+
 ghost use Rattle.std.specs.Prelude.{◌≤◌, ◌<◌};
 ghost use Rattle.manager.specs.State.{Sound};
 

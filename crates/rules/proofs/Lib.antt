@@ -10,11 +10,6 @@ pub mod Admission
 pub mod Steps
 pub mod Arrays
 pub mod Requests
-pub mod Plain
-pub mod Frames
-pub mod Calling
-pub mod Slots
-pub mod ByHand
 pub mod Mapped
 pub mod Order
 pub mod Room

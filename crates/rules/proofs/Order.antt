@@ -52,12 +52,12 @@ module _ {A : Type 0} where
   pub each_take : {P : A → Type 0} {xs : List A} (n : ℕ) → Each P xs → Each P (take n xs)
   each_take zero h = Each.none
   each_take (suc n) Each.none = Each.none
-  each_take (suc n) (Each.also p h) = Each.also p (each_take n h)
+  each_take (suc n) (Each.also {xs = xs} p h) = Each.also p (each_take {xs = xs} n h)
 
   pub each-drop : {P : A → Type 0} {xs : List A} (n : ℕ) → Each P xs → Each P (drop n xs)
   each-drop zero h = h
   each-drop (suc n) Each.none = Each.none
-  each-drop (suc n) (Each.also p h) = each-drop n h
+  each-drop (suc n) (Each.also {xs = xs} p h) = each-drop {xs = xs} n h
 
   pub each-without : {P : A → Type 0} {xs : List A} (at : ℕ) → Each P xs → Each P (take at xs ++ drop (at + 1) xs)
   each-without at h = each_append (each_take at h) (each-drop (at + 1) h)
@@ -89,7 +89,7 @@ module _ {A : Type 0} where
   pub order-drop : {R : A → A → Type 0} {xs : List A} (n : ℕ) → InOrder R xs → InOrder R (drop n xs)
   order-drop zero o = o
   order-drop (suc n) InOrder.none = InOrder.none
-  order-drop (suc n) (InOrder.also q o) = order-drop n o
+  order-drop (suc n) (InOrder.also {xs = xs} q o) = order-drop {xs = xs} n o
 
   pub order-without : {R : A → A → Type 0} {xs : List A} (at : ℕ) → InOrder R xs → InOrder R (take at xs ++ drop (at + 1) xs)
   order-without {R} {xs} at o = subst (λ (n : ℕ). InOrder R (take at xs ++ drop n xs)) (sym (add-one at)) (go at o)
@@ -98,7 +98,7 @@ module _ {A : Type 0} where
       go zero InOrder.none = InOrder.none
       go (suc n) InOrder.none = InOrder.none
       go zero (InOrder.also q o) = o
-      go (suc n) (InOrder.also q o) = InOrder.also (each_append (each_take n q) (each-drop (suc n) q)) (go n o)
+      go (suc n) (InOrder.also {xs = ys} q o) = InOrder.also (each_append (each_take n q) (each-drop (suc n) q)) (go {ys = ys} n o)
 
   -- an element is put in another's place: those ahead must stand so to it, and it to those behind as the other did
   pub order-set : {R : A → A → Type 0} {xs : List A} (at : ℕ) {e : A} (d : A) → at < length xs → InOrder R xs → Each (λ x. R x e) (take at xs) → ((y : A) → R (get_or xs at d) y → R e y) → InOrder R (set xs at e)
@@ -110,4 +110,5 @@ module _ {A : Type 0} where
   pub order-ahead : {R : A → A → Type 0} {xs : List A} (at : ℕ) (d : A) → at < length xs → InOrder R xs → Each (λ x. R x (get_or xs at d)) (take at xs)
   order-ahead zero d lt o = Each.none
   order-ahead (suc at) d lt InOrder.none = Each.none
-  order-ahead (suc at) d lt (InOrder.also q o) = Each.also (each_at q at d (le_of_suc-le-suc lt)) (order-ahead at d (le_of_suc-le-suc lt) o)
+  order-ahead (suc at) d lt (InOrder.also {xs = xs} q o) =
+      Each.also (each_at q at d (le_of_suc-le-suc lt)) (order-ahead {xs = xs} at d (le_of_suc-le-suc lt) o)

@@ -1,6 +1,8 @@
 // What the law book shares with the code: the state of an entry, the answer of a call, and which call an event asks for.
 // An entry's state: running, waiting for remote answers, or blocked.
-#[derive(Drop)]
+#![tactic(auto)]
+
+#[derive(Clone, Copy)]
 pub enum Mode {
     Free,
     Waiting,
@@ -9,7 +11,7 @@ pub enum Mode {
 
 // What a call answers. `Refused` holds the number of document 01's table, `Named` an entry's state, its tenant and its serial.
 // `BlockedOn`, of a Begin alone, holds a Blocked entry's tenant and serial, and the lowest record that it clashed on.
-#[derive(Drop)]
+#[derive(Clone, Copy)]
 pub enum Answer {
     Ok,
     Done,
@@ -21,7 +23,7 @@ pub enum Answer {
 }
 
 // How many records are written by some queued entry, read by some, and either.
-#[derive(Drop)]
+#[derive(Clone, Copy)]
 pub struct Tally {
     pub written: u16,
     pub read: u16,
@@ -29,7 +31,7 @@ pub struct Tally {
 }
 
 // The calls, each with its row in the law book's table (specs/CallTable.antt).
-#[derive(Drop)]
+#[derive(Clone, Copy)]
 pub enum Kind {
     Open,
     Grant,
@@ -44,7 +46,7 @@ pub enum Kind {
 }
 
 // A call without its lists: the tenant that it names and its numbers, 0 where it has none.
-#[derive(Drop)]
+#[derive(Clone, Copy)]
 pub struct Event {
     pub kind: Kind,
     pub tenant: u8,

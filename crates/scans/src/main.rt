@@ -1,6 +1,8 @@
 // Scans of an empty queue, twice as many as the one byte of standard input says, and tenant 1's fuel after them: what
 // bench/calls measures the stack of. No Begin or Finish is in this program, and it reads without a buffer, so that nothing
 // needs more stack than a scan does.
+#![tactic(auto)]
+
 ghost use Rattle.manager.specs.State.{Sound};
 
 use libc::{STDIN_FILENO, STDOUT_FILENO};
