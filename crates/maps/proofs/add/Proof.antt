@@ -12,23 +12,23 @@ use Rattle.maps.proofs.add.Lts as lts
 use Rattle.maps.proofs.add_each.Reads as add-each-reads
 
 -- so many there are
-part : (c : tie.Start) → length (take c.args.n c.args.t2) ≡ c.args.n
+part : (c : tie.Start) → length (take c.args.n c.args.list) ≡ c.args.n
 part c =
-    let eight : length c.args.t2 ≡ 8 = c.well-formed.1.0.1.0.1 in
-    let room : c.args.n ≤ length c.args.t2 = omega arith in
-    length-take-le c.args.n c.args.t2 room
+    let eight : length c.args.list ≡ 8 = c.well_formed.1.0.1.0.1 in
+    let room : c.args.n ≤ length c.args.list = omega arith in
+    length-take-le c.args.n c.args.list room
 
-array-share-prefix-list : tie.Need-array-share-prefix-list
+array-share-prefix-list : tie.Need-slice_bounds-list-end
 array-share-prefix-list c = search rules
 
-slice-aggregate-add-each : tie.Need-slice-aggregate-add-each
+slice-aggregate-add-each : tie.Need-slice_bounds-add_each-end
 slice-aggregate-add-each c = sym (part c.before.before)
 
-add-each-requires : tie.Need-add-each-requires
+add-each-requires : tie.Need-add_each-requires
 add-each-requires c κs = c.before.before.requires.1
 
 returns : tie.Need-returns
-returns c = c.add-each.ensures
+returns c = c.add_each.ensures
 
 pub add_spec : {M : Type 1} → statement M
 add_spec =

@@ -9,5 +9,5 @@ use Rattle.maps.proofs.bits.Lts as lts
 returns : tie.Need-returns
 returns c = record { few = ones-le 64 c.args.w c.ranges.w.fits; is = ones-counted 64 c.args.w c.ranges.w.fits }
 
-pub bits-spec : {M : Type 1} → statement M
-bits-spec = tie.close (tie.spec returns)
+pub bits_spec : {M : Type 1} → statement M
+bits_spec = tie.close (tie.spec returns)

@@ -14,5 +14,5 @@ returns c =
       each = λ k. or-bit (bit_and a.reads a.written) (bit_and a.writes (bit_or a.written a.read)) k ∙ rw (and-bit a.reads a.written k, and-bit a.writes (bit_or a.written a.read) k, or-bit a.written a.read k);
     }
 
-pub clash-bits-spec : {M : Type 1} → statement M
-clash-bits-spec = tie.close (tie.spec returns)
+pub clash_bits_spec : {M : Type 1} → statement M
+clash_bits_spec = tie.close (tie.spec returns)

@@ -7,26 +7,26 @@ use Rattle.maps.proofs.has.Tie as tie
 use Rattle.maps.proofs.has.Reads as reads
 use Rattle.maps.proofs.has.Lts as lts
 
-cast-result : tie.Need-overflow-cast-result
+cast-result : tie.Need-overflow_cast-result
 cast-result c = search rules
 
-mul-result : tie.Need-overflow-mul-result
+mul-result : tie.Need-offset_bounds-map-r
 mul-result c = search rules
 
-element-copy-out-result : tie.Need-element-copy-out-result
+element-copy-out-result : tie.Need-bounds-map-r
 element-copy-out-result c = search rules
 
-cast-result-2 : tie.Need-overflow-cast-result-2
+cast-result-2 : tie.Need-overflow_cast-result-2
 cast-result-2 c = search rules
 
-shr-result : tie.Need-overflow-shr-result
+shr-result : tie.Need-overflow_shr-result
 shr-result c = search rules
 
 returns : tie.Need-returns
 unfolding in_map
 returns c = simp low_bit
 
-pub has-spec : {M : Type 1} → statement M
-has-spec =
+pub has_spec : {M : Type 1} → statement M
+has_spec =
     tie.close
     (tie.spec cast-result mul-result element-copy-out-result cast-result-2 shr-result returns)

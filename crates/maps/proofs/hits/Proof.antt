@@ -11,54 +11,54 @@ use Rattle.maps.specs.Maps.{in_map}
 use Rattle.maps.proofs.hits.Statement.{statement}
 use Rattle.maps.proofs.hits.Tie as tie
 
-abbrev invariant-loop : tie.invariant-loop
+abbrev invariant-loop : tie.invariant-loop-i
 invariant-loop map n list i₀ i = (i ≤ n) × (some (in_map map) (take n list) ≡ some (in_map map) (drop i (take n list)))
 
-abbrev decreases-loop : tie.decreases-loop
+abbrev decreases-loop : tie.decreases-loop-i
 decreases-loop map n list i₀ i = n - i
 
 -- one of the records from i on is in the map
 abbrev hit_from : tie.Start invariant-loop decreases-loop → ℕ → Bool
-hit_from c i = some (in_map c.args.map.now) (drop i (take c.args.n c.args.t2))
+hit_from c i = some (in_map c.args.map.now) (drop i (take c.args.n c.args.list))
 
 -- once the record at i is looked at: it is a hit, or one past it is
-looked : (c : tie.After-has invariant-loop decreases-loop) → hit_from c.before.before.before 0 ≡ (c.has.result || hit_from c.before.before.before (c.before.before.loop.i + 1))
+looked : (c : tie.After-has invariant-loop decreases-loop) → hit_from c.before.before.before 0 ≡ (c.has.result || hit_from c.before.before.before (c.before.before.loop-i.i + 1))
 looked c =
     let at = c.before.before in
     let args = at.before.args in
-    let eight : length args.t2 ≡ 8 = at.before.well-formed.1.0.1.0.1 in
+    let eight : length args.list ≡ 8 = at.before.well_formed.1.0.1.0.1 in
     rw c.has.ensures
-    (at.loop.invariant.1 ∙ some-part-step (in_map args.map.now) args.t2 args.n at.loop.i 0 (omega arith) (omega arith))
+    (at.loop-i.invariant.1 ∙ some-part-step (in_map args.map.now) args.list args.n at.loop-i.i 0 (omega arith) (omega arith))
 
-loop-holds : tie.Need-loop-init invariant-loop decreases-loop
+loop-holds : tie.Need-loop-i-init invariant-loop decreases-loop
 loop-holds c = search rules
 
-array-read-has : tie.Need-array-read-has invariant-loop decreases-loop
+array-read-has : tie.Need-bounds-list-i invariant-loop decreases-loop
 array-read-has c = search rules
 
 has-requires : tie.Need-has-requires invariant-loop decreases-loop
 has-requires c κs = search rules
 
-returns : tie.Need-returns invariant-loop decreases-loop
-returns c = sym (looked c.before ∙ simp c.if1.true)
+returns : tie.Need-returns-then-has invariant-loop decreases-loop
+returns c = sym (looked c.before ∙ simp c.if-has.true)
 
-add-i : tie.Need-overflow-add-i invariant-loop decreases-loop
+add-i : tie.Need-overflow_add-i invariant-loop decreases-loop
 add-i c = search rules
 
-loop-less : tie.Need-loop-smaller invariant-loop decreases-loop
+loop-less : tie.Need-loop-i-smaller invariant-loop decreases-loop
 loop-less c = search rules
 
-loop-again : tie.Need-loop-preserved invariant-loop decreases-loop
-loop-again c = (search rules, looked c.before ∙ simp c.if1.false)
+loop-again : tie.Need-loop-i-preserved invariant-loop decreases-loop
+loop-again c = (search rules, looked c.before ∙ simp c.if-has.false)
 
-returns-2 : tie.Need-returns-2 invariant-loop decreases-loop
+returns-2 : tie.Need-returns invariant-loop decreases-loop
 returns-2 c =
     let at = c.before in
     let args = at.before.args in
-    sym (at.loop.invariant.1 ∙ some-part-end (in_map args.map.now) args.t2 args.n at.loop.i c.loop-test.false)
+    sym (at.loop-i.invariant.1 ∙ some-part-end (in_map args.map.now) args.list args.n at.loop-i.i c.loop-i-test.false)
 
-pub hits-spec : {M : Type 1} → statement M
-hits-spec =
+pub hits_spec : {M : Type 1} → statement M
+hits_spec =
     tie.close
     (tie.spec
     invariant-loop

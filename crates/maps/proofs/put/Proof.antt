@@ -10,22 +10,22 @@ use Rattle.maps.proofs.put.Tie as tie
 use Rattle.maps.proofs.put.Reads as reads
 use Rattle.maps.proofs.put.Lts as lts
 
-cast-i : tie.Need-overflow-cast-i
+cast-i : tie.Need-overflow_cast-i
 cast-i c = search rules
 
-cast-map : tie.Need-overflow-cast-map
+cast-map : tie.Need-overflow_cast-map
 cast-map c = search rules
 
-shl-map : tie.Need-overflow-shl-map
+shl-map : tie.Need-overflow_shl-map
 shl-map c = search rules
 
-mul-map : tie.Need-overflow-mul-map
+mul-map : tie.Need-offset_bounds-map-i
 mul-map c = search rules
 
-element-copy-out-map : tie.Need-element-copy-out-map
+element-copy-out-map : tie.Need-bounds-map-i
 element-copy-out-map c = search rules
 
-element-write-map : tie.Need-element-write-map
+element-write-map : tie.Need-bounds-map-i-2
 element-write-map c = search rules
 
 returns : tie.Need-returns
