@@ -8,7 +8,7 @@ use Rattle.rules.specs.Lists.{some}
 use Rattle.rules.specs.Request.{conflict, conflicts_any}
 use Rattle.rules.proofs.Steps.{list-step}
 use Rattle.entry.specs.declared.Entry.{Entry}
-use Rattle.entry.specs.Entry.{request}
+use Rattle.entry.specs.Entry.{request, blank}
 
 abbrev conflicting : Entry → Entry → Bool
 conflicting a e = conflict (request a) (request e)
@@ -21,14 +21,14 @@ abbrev pub Still : List Entry → Entry → ℕ → Type 0
 Still ys e i = any_ahead (drop i ys) e ≡ any_ahead ys e
 
 module _ (ys : List Entry) (e : Entry) (i : ℕ) where
-  step : i < length ys → any_ahead (drop i ys) e ≡ (conflicting (get_or ys i e) e || any_ahead (drop (i + 1) ys) e)
+  step : i < length ys → any_ahead (drop i ys) e ≡ (conflicting (get_or ys i blank) e || any_ahead (drop (i + 1) ys) e)
   unfolding some
-  step l = ap (λ (zs : List Entry). any_ahead zs e) (list-step ys i e l)
+  step l = ap (λ (zs : List Entry). any_ahead zs e) (list-step ys i blank l)
 
-  pub one_more : i < length ys → Still ys e i → conflicting (get_or ys i e) e ≡ false → Still ys e (i + 1)
+  pub one_more : i < length ys → Still ys e i → conflicting (get_or ys i blank) e ≡ false → Still ys e (i + 1)
   one_more l s not-it = sym (step l ∙ simp not-it) ∙ s
 
-  pub found : i < length ys → Still ys e i → conflicting (get_or ys i e) e ≡ true → true ≡ any_ahead ys e
+  pub found : i < length ys → Still ys e i → conflicting (get_or ys i blank) e ≡ true → true ≡ any_ahead ys e
   found l s it = sym (step l ∙ simp it) ∙ s
 
   pub at-end : length ys ≤ i → Still ys e i → false ≡ any_ahead ys e

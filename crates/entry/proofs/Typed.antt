@@ -1,8 +1,8 @@
 -- What a value's type alone says of it: the lengths of its arrays and the range of its bytes. `c.good` of a function's
 -- proof is such a fact of its parameters, and `.ok` of a call's result.
 use Prim.Native.Nat.{ℕ, zero, suc, ◌≤◌, ◌<◌, min}
-use mathlib.Core.Path.{◌≡◌, refl, sym, ap, subst, ◌∙◌}
-use mathlib.Core.List.{List, [], ◌∷◌, map}
+use mathlib.Core.Path.{◌≡◌, sym, ap, ◌∙◌}
+use mathlib.Core.List.{List, [], ◌∷◌}
 use native.Mathlib.Omega.{arith}
 use mathlib.Core.Logic.{⊎_elim}
 use lib.ListN.{length, get_or, take}
@@ -36,21 +36,13 @@ each_below (x ∷ xs) (u ∷ us) p (suc k) = each_below xs us p.1 k
 pub bytes : (n : ℕ) (xs : List ℕ) (vs : List Val) → Is (Array (UInt w8) n) xs vs → Bytes n xs
 bytes n xs vs p = record { size = p.1.0.1; below = each_below xs p.0 p.1.1 }
 
-map-id : (xs : List ℕ) → map (λ (x : ℕ). x) xs ≡ xs
-map-id [] = refl
-map-id (x ∷ xs) = ap (λ (t : List ℕ). x ∷ t) (map-id xs)
-
--- the same as a field of a struct, whose list is mapped
-pub field-bytes : (n : ℕ) (xs : List ℕ) (vs : List Val) → Is (Array (UInt w8) n) (map (λ (x : ℕ). x) xs) vs → Bytes n xs
-field-bytes n xs vs p = subst (Bytes n) (map-id xs) (bytes n (map (λ (x : ℕ). x) xs) vs p)
-
 -- an entry's two lists of records
 pub record Lists (e : Entry) : Type 0 where
   pub reads : Bytes 8 e.reads
   pub writes : Bytes 8 e.writes
 
 pub entry-lists : (e : Entry) (vs : List Val) → Is entry.the_row e vs → Lists e
-entry-lists e vs p = record { reads = field-bytes 8 e.reads _ p.1.1.1.1.1.1.1.1.1.0; writes = field-bytes 8 e.writes _ p.1.1.1.1.1.1.1.1.1.1.0 }
+entry-lists e vs p = record { reads = bytes 8 e.reads _ p.1.1.1.1.1.1.1.1.1.0; writes = bytes 8 e.writes _ p.1.1.1.1.1.1.1.1.1.1.0 }
 
 -- the count clamped to 8 picks the same records
 pub few-take : (n few : ℕ) {xs : List ℕ} → Bytes 8 xs → few ≡ min n 8 → take few xs ≡ take n xs

@@ -9,39 +9,39 @@ use borrow.Author.Rules.{rules}
 use Rattle.entry.proofs.holds.Statement.{statement}
 use Rattle.entry.proofs.holds.Tie as tie
 
-abbrev invariant-loop : tie.invariant-loop
+abbrev invariant-loop : tie.invariant-loop-i
 invariant-loop list r n i₀ i = (member r list ≡ member r (drop i list))
 
-abbrev decreases-loop : tie.decreases-loop
+abbrev decreases-loop : tie.decreases-loop-i
 decreases-loop list r n i₀ i = n - i
 
-loop-holds : tie.Need-loop-init invariant-loop decreases-loop
+loop-holds : tie.Need-loop-i-init invariant-loop decreases-loop
 loop-holds c = search rules
 
-shared-slice-read-if1 : tie.Need-shared-slice-read-if1 invariant-loop decreases-loop
+shared-slice-read-if1 : tie.Need-bounds-list-i invariant-loop decreases-loop
 shared-slice-read-if1 c = search rules
 
-returns : tie.Need-returns invariant-loop decreases-loop
+returns : tie.Need-returns-then-list-i invariant-loop decreases-loop
 returns c =
     let turn = c.before.before in
-    sym (turn.before.loop.invariant ∙ member-step _ _ _ turn.loop-test.true ∙ simp (eq-eqb _ _ c.if1.true))
+    sym (turn.before.loop-i.invariant ∙ member-step _ _ _ turn.loop-i-test.true ∙ simp (eq-eqb _ _ c.if-list-i.true))
 
-add-i : tie.Need-overflow-add-i invariant-loop decreases-loop
+add-i : tie.Need-overflow_add-i invariant-loop decreases-loop
 add-i c = search rules
 
-loop-less : tie.Need-loop-smaller invariant-loop decreases-loop
+loop-less : tie.Need-loop-i-smaller invariant-loop decreases-loop
 loop-less c = search rules
 
-loop-again : tie.Need-loop-preserved invariant-loop decreases-loop
+loop-again : tie.Need-loop-i-preserved invariant-loop decreases-loop
 loop-again c =
     let turn = c.before.before in
-    turn.before.loop.invariant ∙ member-step _ _ _ turn.loop-test.true ∙ simp (ne_eqb _ _ c.if1.false)
+    turn.before.loop-i.invariant ∙ member-step _ _ _ turn.loop-i-test.true ∙ simp (ne_eqb _ _ c.if-list-i.false)
 
-returns-2 : tie.Need-returns-2 invariant-loop decreases-loop
-returns-2 c = sym (c.before.loop.invariant ∙ member-end _ _ _ c.loop-test.false)
+returns-2 : tie.Need-returns invariant-loop decreases-loop
+returns-2 c = sym (c.before.loop-i.invariant ∙ member-end _ _ _ c.loop-i-test.false)
 
-pub holds-spec : {M : Type 1} → statement M
-holds-spec =
+pub holds_spec : {M : Type 1} → statement M
+holds_spec =
     tie.close
     (tie.spec
     invariant-loop

@@ -8,42 +8,42 @@ use Rattle.rules.proofs.Steps.{meets-step, meets-end}
 use Rattle.entry.proofs.meet.Statement.{statement}
 use Rattle.entry.proofs.meet.Tie as tie
 
-abbrev invariant-loop : tie.invariant-loop
+abbrev invariant-loop : tie.invariant-loop-i
 invariant-loop xs ys n i₀ i = (meets xs ys ≡ meets (drop i xs) ys)
 
-abbrev decreases-loop : tie.decreases-loop
+abbrev decreases-loop : tie.decreases-loop-i
 decreases-loop xs ys n i₀ i = n - i
 
-loop-holds : tie.Need-loop-init invariant-loop decreases-loop
+loop-holds : tie.Need-loop-i-init invariant-loop decreases-loop
 loop-holds c = search rules
 
-shared-slice-read-holds : tie.Need-shared-slice-read-init invariant-loop decreases-loop
+shared-slice-read-holds : tie.Need-bounds-xs-i invariant-loop decreases-loop
 shared-slice-read-holds c = search rules
 
 holds-requires : tie.Need-holds-requires invariant-loop decreases-loop
 holds-requires c κs = search rules
 
-returns : tie.Need-returns invariant-loop decreases-loop
+returns : tie.Need-returns-then-holds invariant-loop decreases-loop
 returns c =
     let turn = c.before.before.before in
-    sym (turn.before.loop.invariant ∙ meets-step _ _ _ turn.loop-test.true ∙ simp (sym c.before.holds.ensures ∙ c.if1.true))
+    sym (turn.before.loop-i.invariant ∙ meets-step _ _ _ turn.loop-i-test.true ∙ simp (sym c.before.holds.ensures ∙ c.if-holds.true))
 
-add-i : tie.Need-overflow-add-i invariant-loop decreases-loop
+add-i : tie.Need-overflow_add-i invariant-loop decreases-loop
 add-i c = search rules
 
-loop-less : tie.Need-loop-smaller invariant-loop decreases-loop
+loop-less : tie.Need-loop-i-smaller invariant-loop decreases-loop
 loop-less c = search rules
 
-loop-again : tie.Need-loop-preserved invariant-loop decreases-loop
+loop-again : tie.Need-loop-i-preserved invariant-loop decreases-loop
 loop-again c =
     let turn = c.before.before.before in
-    turn.before.loop.invariant ∙ meets-step _ _ _ turn.loop-test.true ∙ simp (sym c.before.holds.ensures ∙ c.if1.false)
+    turn.before.loop-i.invariant ∙ meets-step _ _ _ turn.loop-i-test.true ∙ simp (sym c.before.holds.ensures ∙ c.if-holds.false)
 
-returns-2 : tie.Need-returns-2 invariant-loop decreases-loop
-returns-2 c = sym (c.before.loop.invariant ∙ meets-end _ _ _ c.loop-test.false)
+returns-2 : tie.Need-returns invariant-loop decreases-loop
+returns-2 c = sym (c.before.loop-i.invariant ∙ meets-end _ _ _ c.loop-i-test.false)
 
-pub meet-spec : {M : Type 1} → statement M
-meet-spec =
+pub meet_spec : {M : Type 1} → statement M
+meet_spec =
     tie.close
     (tie.spec
     invariant-loop

@@ -10,47 +10,47 @@ use borrow.Author.Rules.{rules}
 use Rattle.entry.proofs.rises.Statement.{statement}
 use Rattle.entry.proofs.rises.Tie as tie
 
-abbrev invariant-loop : tie.invariant-loop
+abbrev invariant-loop : tie.invariant-loop-i
 invariant-loop list n i₀ i = (1 ≤ i) × (rising list ≡ rising_past (get_or list (i - 1) 0) (drop i list))
 
-abbrev decreases-loop : tie.decreases-loop
+abbrev decreases-loop : tie.decreases-loop-i
 decreases-loop list n i₀ i = n - i
 
-loop-holds : tie.Need-loop-init invariant-loop decreases-loop
+loop-holds : tie.Need-loop-i-init invariant-loop decreases-loop
 loop-holds c = (search rules, rising-first c.args.list.now)
 
-shared-slice-read-if1 : tie.Need-shared-slice-read-if1 invariant-loop decreases-loop
+shared-slice-read-if1 : tie.Need-bounds-list-i invariant-loop decreases-loop
 shared-slice-read-if1 c = search rules
 
-sub-if1 : tie.Need-overflow-sub-if1 invariant-loop decreases-loop
+sub-if1 : tie.Need-overflow_sub-i invariant-loop decreases-loop
 sub-if1 c = search rules
 
-shared-slice-read-if1-2 : tie.Need-shared-slice-read-if1-2 invariant-loop decreases-loop
+shared-slice-read-if1-2 : tie.Need-bounds-list-i-in-loop-i invariant-loop decreases-loop
 shared-slice-read-if1-2 c = search rules
 
-returns : tie.Need-returns invariant-loop decreases-loop
+returns : tie.Need-returns-then-list-i invariant-loop decreases-loop
 returns c =
     let turn = c.before.before.before in
-    sym (turn.before.loop.invariant.1 ∙ rising_step _ _ _ turn.loop-test.true ∙ simp (le-ltb _ _ c.if1.true))
+    sym (turn.before.loop-i.invariant.1 ∙ rising_step _ _ _ turn.loop-i-test.true ∙ simp (le-ltb _ _ c.if-list-i.true))
 
-add-i : tie.Need-overflow-add-i invariant-loop decreases-loop
+add-i : tie.Need-overflow_add-i invariant-loop decreases-loop
 add-i c = search rules
 
-loop-less : tie.Need-loop-smaller invariant-loop decreases-loop
+loop-less : tie.Need-loop-i-smaller invariant-loop decreases-loop
 loop-less c = search rules
 
-loop-again : tie.Need-loop-preserved invariant-loop decreases-loop
+loop-again : tie.Need-loop-i-preserved invariant-loop decreases-loop
 loop-again c =
     let turn = c.before.before.before in
-    let i = turn.before.loop.i in
+    let i = turn.before.loop-i.i in
     let same : i + 1 - 1 ≡ i = omega arith in
-    (search rules, turn.before.loop.invariant.1 ∙ rising_step _ _ _ turn.loop-test.true ∙ simp (lt-ltb _ _ c.if1.false, same))
+    (search rules, turn.before.loop-i.invariant.1 ∙ rising_step _ _ _ turn.loop-i-test.true ∙ simp (lt-ltb _ _ c.if-list-i.false, same))
 
-returns-2 : tie.Need-returns-2 invariant-loop decreases-loop
-returns-2 c = sym (c.before.loop.invariant.1 ∙ rising-end _ _ _ c.loop-test.false)
+returns-2 : tie.Need-returns invariant-loop decreases-loop
+returns-2 c = sym (c.before.loop-i.invariant.1 ∙ rising-end _ _ _ c.loop-i-test.false)
 
-pub rises-spec : {M : Type 1} → statement M
-rises-spec =
+pub rises_spec : {M : Type 1} → statement M
+rises_spec =
     tie.close
     (tie.spec
     invariant-loop

@@ -7,7 +7,6 @@ use Rattle.rules.specs.Request.{size}
 use Rattle.entry.proofs.Typed.{entry-lists}
 use Rattle.entry.proofs.size.Statement.{statement}
 use Rattle.entry.proofs.size.Tie as tie
-use Rattle.entry.proofs.size.Reads as reads
 
 few-requires : tie.Need-few-requires
 few-requires c κs = search rules
@@ -15,14 +14,14 @@ few-requires c κs = search rules
 few-requires-2 : tie.Need-few-requires-2
 few-requires-2 c κs = search rules
 
-add-result : tie.Need-overflow-add-result
+add-result : tie.Need-overflow_add-result
 add-result c = search rules
 
 returns : tie.Need-returns
 unfolding size
 returns c =
-    let l = entry-lists c.before.before.args.e _ c.before.before.well-formed.0 in
-    (simp length-take (omega (arith, c.before.few.ensures, c.few2.ensures, l.reads.size, l.writes.size)), omega (arith, c.before.few.ensures, c.few2.ensures))
+    let l = entry-lists c.before.before.args.e _ c.before.before.well_formed.0 in
+    (simp length-take (omega (arith, c.before.few.ensures, c.few-2.ensures, l.reads.size, l.writes.size)), omega (arith, c.before.few.ensures, c.few-2.ensures))
 
-pub size-spec : {M : Type 1} → statement M
-size-spec = tie.close (tie.spec few-requires few-requires-2 add-result returns)
+pub size_spec : {M : Type 1} → statement M
+size_spec = tie.close (tie.spec few-requires few-requires-2 add-result returns)
