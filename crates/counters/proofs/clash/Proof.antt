@@ -4,35 +4,32 @@ use Rattle.rules.proofs.Verdicts.{figure2-split}
 use borrow.Author.Rules.{rules}
 use Rattle.counters.proofs.clash.Statement.{statement}
 use Rattle.counters.proofs.clash.Tie as tie
-use Rattle.counters.proofs.clash.Reads as reads
-use Rattle.counters.proofs.clash.Lts as lts
-use Rattle.counters.proofs.some_above.Reads as some-above-reads
 
-some-above-requires : tie.Need-some-above-requires
+some-above-requires : tie.Need-some_above-requires
 some-above-requires c κs = search rules
 
-returns : tie.Need-returns
-returns c = sym (figure2-split _ _ _ ∙ simp (sym c.before.some-above.ensures ∙ c.if1.true))
+returns : tie.Need-returns-then-some_above
+returns c = sym (figure2-split _ _ _ ∙ simp (sym c.before.some_above.ensures ∙ c.if-some_above.true))
 
-some-above-requires-2 : tie.Need-some-above-requires-2
+some-above-requires-2 : tie.Need-some_above-requires-2
 some-above-requires-2 c κs = search rules
 
-returns-2 : tie.Need-returns-2
+returns-2 : tie.Need-returns-then-some_above-2
 returns-2 c =
     let one = c.before.before in
-    sym (figure2-split _ _ _ ∙ simp (sym one.before.some-above.ensures ∙ one.if1.false, sym c.before.some-above2.ensures ∙ c.if2.true))
+    sym (figure2-split _ _ _ ∙ simp (sym one.before.some_above.ensures ∙ one.if-some_above.false, sym c.before.some_above-2.ensures ∙ c.if-some_above-2.true))
 
-some-above-requires-3 : tie.Need-some-above-requires-3
+some-above-requires-3 : tie.Need-some_above-requires-3
 some-above-requires-3 c κs = search rules
 
-returns-3 : tie.Need-returns-3
+returns-3 : tie.Need-returns
 returns-3 c =
     let two = c.before in
     let one = two.before.before in
-    c.some-above3.ensures ∙ sym (figure2-split _ _ _ ∙ simp (sym one.before.some-above.ensures ∙ one.if1.false, sym two.before.some-above2.ensures ∙ two.if2.false))
+    c.some_above-3.ensures ∙ sym (figure2-split _ _ _ ∙ simp (sym one.before.some_above.ensures ∙ one.if-some_above.false, sym two.before.some_above-2.ensures ∙ two.if-some_above-2.false))
 
-pub clash-spec : {M : Type 1} → statement M
-clash-spec =
+pub clash_spec : {M : Type 1} → statement M
+clash_spec =
     tie.close
     (tie.spec
     some-above-requires

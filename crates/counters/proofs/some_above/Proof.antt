@@ -10,52 +10,49 @@ use Rattle.counters.specs.Counters.{at}
 use borrow.Author.Rules.{rules}
 use Rattle.counters.proofs.some_above.Statement.{statement}
 use Rattle.counters.proofs.some_above.Tie as tie
-use Rattle.counters.proofs.some_above.Reads as reads
-use Rattle.counters.proofs.some_above.Lts as lts
-use Rattle.counters.proofs.wide.Reads as wide-reads
 
-abbrev invariant-loop : tie.invariant-loop
+abbrev invariant-loop : tie.invariant-loop-i
 invariant-loop counters list floor n i₀ i =
     (i ≤ length list) × (some (λ k. ltb floor (at counters k)) list ≡ some (λ k. ltb floor (at counters k)) (drop i list))
 
-abbrev decreases-loop : tie.decreases-loop
+abbrev decreases-loop : tie.decreases-loop-i
 decreases-loop counters list floor n i₀ i = length list - i
 
-loop-holds : tie.Need-loop-init invariant-loop decreases-loop
+loop-holds : tie.Need-loop-i-init invariant-loop decreases-loop
 loop-holds c = search rules
 
-shared-slice-read-wide : tie.Need-shared-slice-read-wide invariant-loop decreases-loop
+shared-slice-read-wide : tie.Need-bounds-list-i invariant-loop decreases-loop
 shared-slice-read-wide c = search rules
 
-wide-requires : tie.Need-wide-requires invariant-loop decreases-loop
+wide-requires : tie.Need-wide-k-requires invariant-loop decreases-loop
 wide-requires c κs = search rules
 
-element-copy-out-if1 : tie.Need-element-copy-out-if1 invariant-loop decreases-loop
-element-copy-out-if1 c = c.wide.ensures.1
+element-copy-out-if1 : tie.Need-bounds-counters-k invariant-loop decreases-loop
+element-copy-out-if1 c = c.wide-k.ensures.1
 
-returns : tie.Need-returns invariant-loop decreases-loop
+returns : tie.Need-returns-then-floor-counters invariant-loop decreases-loop
 returns c =
     let a = c.before.before.before.before.before in
-    let hit = lt-ltb _ _ (rw c.before.before.wide.ensures.0 at c.if1.true) in
-    sym (a.loop.invariant.1 ∙ some-step _ _ _ 0 c.before.before.before.before.loop-test.true ∙ simp hit)
+    let hit = lt-ltb _ _ (rw c.before.before.wide-k.ensures.0 at c.if-floor-counters.true) in
+    sym (a.loop-i.invariant.1 ∙ some-step _ _ _ 0 c.before.before.before.before.loop-i-test.true ∙ simp hit)
 
-add-i : tie.Need-overflow-add-i invariant-loop decreases-loop
+add-i : tie.Need-overflow_add-i invariant-loop decreases-loop
 add-i c = search rules
 
-loop-less : tie.Need-loop-smaller invariant-loop decreases-loop
+loop-less : tie.Need-loop-i-smaller invariant-loop decreases-loop
 loop-less c = search rules
 
-loop-again : tie.Need-loop-preserved invariant-loop decreases-loop
+loop-again : tie.Need-loop-i-preserved invariant-loop decreases-loop
 loop-again c =
     let a = c.before.before.before.before.before in
-    let miss = le-ltb _ _ (rw c.before.before.wide.ensures.0 at c.if1.false) in
-    (search rules, a.loop.invariant.1 ∙ some-step _ _ _ 0 c.before.before.before.before.loop-test.true ∙ simp miss)
+    let miss = le-ltb _ _ (rw c.before.before.wide-k.ensures.0 at c.if-floor-counters.false) in
+    (search rules, a.loop-i.invariant.1 ∙ some-step _ _ _ 0 c.before.before.before.before.loop-i-test.true ∙ simp miss)
 
-returns-2 : tie.Need-returns-2 invariant-loop decreases-loop
-returns-2 c = sym (c.before.loop.invariant.1 ∙ some_end _ _ _ c.loop-test.false)
+returns-2 : tie.Need-returns invariant-loop decreases-loop
+returns-2 c = sym (c.before.loop-i.invariant.1 ∙ some_end _ _ _ c.loop-i-test.false)
 
-pub some-above-spec : {M : Type 1} → statement M
-some-above-spec =
+pub some_above_spec : {M : Type 1} → statement M
+some_above_spec =
     tie.close
     (tie.spec
     invariant-loop
