@@ -1,5 +1,6 @@
 -- The reads that are not written are put at the front of an array, one by one: what is put there, and what is still to come, are
 -- together the law book's list.
+use Rattle.std.specs.Prelude.{if◌then◌else◌}
 use Prim.Native.Nat.{ℕ, ◌+◌, ◌-◌, ◌≤◌, ◌<◌}
 use mathlib.Core.Path.{◌≡◌, refl, sym, ap, ◌∙◌}
 use mathlib.Core.Bool.{Bool, true, false, not}
@@ -8,7 +9,7 @@ use native.Mathlib.Numerals.{add-one}
 use native.Mathlib.Omega.{arith}
 use lib.ListN.{length, get_or, take, drop, set, replicate, length-set, drop_of_length-le}
 use lib.Seq.{drop-set-lt, take-suc-set, length-take-le}
-use Rattle.rules.specs.Lists.{if◌then◌else◌, keep_if}
+use Rattle.rules.specs.Lists.{keep_if}
 use Rattle.rules.specs.Records.{member, only_read}
 use Rattle.rules.proofs.Steps.{list-step}
 use Rattle.rules.proofs.Arrays.{rest-next}

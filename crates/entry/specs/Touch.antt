@@ -1,6 +1,5 @@
 -- What a request does to each of its records, those that it reads first.
-use Rattle.std.specs.Prelude.{ℕ, ◌-◌, true, false, ltb, length, get_or}
-use Rattle.rules.specs.Lists.{if◌then◌else◌}
+use Rattle.std.specs.Prelude.{ℕ, ◌-◌, true, false, ltb, length, get_or, if◌then◌else◌}
 use Rattle.rules.specs.Request.{Request}
 use Rattle.entry.specs.declared.Touch.{Touch}
 

@@ -1,9 +1,8 @@
 // One request as a slot of the queue holds it; tests of lent lists, and what is stored of them; when two entries conflict.
 #![tactic(auto)]
 
-ghost use Rattle.std.specs.Prelude.{◌≡◌, ◌&&◌, map, ◌≤◌, ◌<◌, min, eqb, ltb, length, take};
+ghost use Rattle.std.specs.Prelude.{◌≡◌, ◌&&◌, map, ◌≤◌, ◌<◌, min, eqb, ltb, length, take, if◌then◌else◌};
 ghost use Rattle.rules.specs.declared.Mode.TheVariants.{Free};
-ghost use Rattle.rules.specs.Lists.{if◌then◌else◌};
 ghost use Rattle.rules.specs.Records.{member, rising, meets, only_read};
 ghost use Rattle.rules.specs.Request.{requested, reduced, size as size_of, conflict, conflicts_any, is_free, is_waiting, is_blocked, with_mode, with_due, promoted as promoted_of, delivered as delivered_of};
 ghost use Rattle.rules.specs.Calls.{named as named_of};

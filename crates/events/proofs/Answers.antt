@@ -1,4 +1,5 @@
 -- Which answer a reading gives: the end, a refusal, or what a whole record is read as.
+use Rattle.std.specs.Prelude.{if◌then◌else◌}
 use Prim.Native.Nat.{ℕ, ◌≤◌, ◌<◌}
 use mathlib.Core.Path.{◌≡◌, refl, sym, ◌∙◌}
 use mathlib.Core.Bool.{Bool, true, false}
@@ -7,7 +8,6 @@ use lib.Dec.{eqb}
 use lib.ListN.{length}
 use borrow.Author.Tests.{le-leb, lt-leb, ne_eqb}
 use Rattle.rules.specs.declared.Kind.{Kind}
-use Rattle.rules.specs.Lists.{if◌then◌else◌}
 use Rattle.rules.specs.Refusals.{first_of}
 use Rattle.events.specs.declared.Tagged.TheVariants.{Known}
 use Rattle.events.specs.declared.Next.{Next}

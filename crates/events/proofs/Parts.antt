@@ -4,7 +4,7 @@ use mathlib.Core.Path.{◌≡◌, sym, ap, ◌∙◌}
 use mathlib.Core.List.{List, [], ◌∷◌}
 use native.Mathlib.Nat.{zero-add, suc-add}
 use native.Mathlib.Omega.{arith}
-use lib.ListN.{take, drop, length-take, get_or-eq_default}
+use lib.ListN.{take, drop}
 use lib.Seq.{get_or-take, get_or-drop, drop-drop, take-nil}
 use Rattle.events.specs.Events.{byte_at, two_at, four_at, count_in}
 
@@ -43,9 +43,6 @@ third-byte file at n h =
     let lt : 2 < n = omega arith in
     let place : at + 3 + 2 ≡ at + 5 = omega arith in
     byte-of-part file (at + 3) n 2 (at + 5) lt place
-
-pub no-third-byte : (l : List ℕ) (n : ℕ) → n < 3 → count_in (take n l) ≡ 0
-no-third-byte l n h = get_or-eq_default (take n l) 0 {n = 2} (simp length-take (omega arith))
 
 -- from the start of the writes to the end of the body
 pub left_behind : (at n r : ℕ) → at + 3 + n - (at + 6 + r) ≡ n - 3 - r

@@ -1,14 +1,15 @@
 -- The rows of a record's refusals: which number each way gives, and what no refusal means.
+use Rattle.std.specs.Prelude.{if◌then◌else◌}
 use Prim.Native.Nat.{ℕ, ◌+◌, ◌≤◌, ◌<◌}
 use mathlib.Core.Path.{◌≡◌, refl, sym, ◌∙◌}
 use mathlib.Core.Bool.{Bool, true, false, not}
 use mathlib.Core.List.{List, [], ◌∷◌, ◌++◌}
 use native.Mathlib.Omega.{arith}
 use lib.Dec.{eqb}
-use lib.ListN.{length}
+use lib.ListN.{length, take, drop}
 use borrow.Author.Tests.{lt-ltb, le-ltb, ltb-false, eq-eqb, eqb-true, ne_eqb, not-true, not-false}
 use Rattle.rules.specs.declared.Kind.{Kind}
-use Rattle.rules.specs.Lists.{if◌then◌else◌, every}
+use Rattle.rules.specs.Lists.{every}
 use Rattle.rules.specs.CallTable.{Body, bytes, lists, row_of, is_opening}
 use Rattle.rules.specs.Refusals.{Row, first_of}
 use Rattle.rules.proofs.Tests.{both, if-cases}
@@ -16,13 +17,17 @@ use Rattle.rules.proofs.Refusals.{pass}
 use Rattle.events.specs.declared.Tagged.{Tagged}
 use Rattle.events.specs.declared.Tagged.TheVariants.{Known, Unknown}
 use Rattle.events.specs.Events.{tag_at, length_at, body_at, next_at, count_in, is_tag, kind_of, fits, misplaced, body_rows, record_rows, file_rows, standing, opens, is_lists, has_lists, Whole}
-use Rattle.events.proofs.Tags.{known-tag, unknown-tag}
+use Rattle.events.proofs.Tags.{unknown-tag}
 
 module _ (file : List ℕ) (at : ℕ) where
   -- ---- the body
   module _ (k : Kind) where
     abbrev suited : Bool
     suited = fits (row_of k).body (length_at file at) (count_in (body_at file at))
+
+    -- the code's count and length are the record's
+    pub suited-as : {b : Bool} {n r : ℕ} → n ≡ length_at file at → r ≡ count_in (take n (drop (at + 3) file)) → b ≡ fits (row_of k).body n r → b ≡ suited
+    suited-as e h f = cc
 
     pub no_body : length file < next_at file at → first_of (body_rows file at (Known k)) ≡ 21
     unfolding body_rows first_of
@@ -48,7 +53,7 @@ module _ (file : List ℕ) (at : ℕ) where
 
     pub tag-known : {k : Kind} → kind_of (tag_at file at) ≡ Known k → first_of (record_rows file at) ≡ first_of (body_rows file at (Known k))
     unfolding record_rows first_of
-    tag-known e = simp (le-ltb (length file) (at + 3) h, known-tag (tag_at file at) e, e)
+    tag-known e = simp (le-ltb (length file) (at + 3) h, e)
 
   -- a record with nothing wrong: its head is there, and the rest by its kind
   pub record Sound : Type 0 where
@@ -82,9 +87,6 @@ module _ (file : List ℕ) (at : ℕ) where
 
   pub stands : wrong ≡ 0 → standing file at ≡ kind_of (tag_at file at)
   stands z = rw (eq-eqb wrong 0 z)
-
-  pub stands-not : (wrong ≡ 0 → ⊥) → standing file at ≡ Unknown
-  stands-not n = rw (ne_eqb wrong 0 n)
 
   stands-whole : {k : Kind} → standing file at ≡ Known k → Whole file at k
   stands-whole {k} = if-cases (λ (t : Tagged). t ≡ Known k → Whole file at k) (eqb wrong 0) (λ z. whole file at (eqb-true wrong 0 z)) (λ z. λ (e : Unknown ≡ Known k). absurd (let o : ◌≡◌ {A = ℕ} 0 1 = cc in omega arith))

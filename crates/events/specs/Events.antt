@@ -1,8 +1,7 @@
 -- The event file, as a list of bytes: what stands at a position, when it is refused, and which call it is.
-use Rattle.std.specs.Prelude.{ℕ, ◌+◌, ◌-◌, ◌*◌, ◌≤◌, ◌≡◌, Bool, true, false, ◌&&◌, not, List, [], ◌∷◌, ◌++◌, eqb, ltb, leb, length, get_or, take, drop}
+use Rattle.std.specs.Prelude.{ℕ, ◌+◌, ◌-◌, ◌*◌, ◌≤◌, ◌≡◌, Bool, true, false, ◌&&◌, not, List, [], ◌∷◌, ◌++◌, eqb, ltb, leb, length, get_or, take, drop, if◌then◌else◌}
 use Rattle.rules.specs.declared.Kind.{Kind}
 use Rattle.rules.specs.declared.Event.{Event}
-use Rattle.rules.specs.Lists.{if◌then◌else◌}
 use Rattle.rules.specs.CallTable.{Body, bytes, lists, row_of, kinds, is_opening}
 use Rattle.rules.specs.Refusals.{Row, ◌gives◌, first_of}
 use Rattle.rules.specs.Runs.{Call, event_of}

@@ -1,9 +1,8 @@
 // The reader of an event file: what record stands at a position, and the parts of its body.
 #![tactic(auto)]
 
-ghost use Rattle.std.specs.Prelude.{◌≡◌, [], ◌+◌, ◌≤◌, ◌<◌, length, take, drop};
+ghost use Rattle.std.specs.Prelude.{◌≡◌, [], ◌+◌, ◌≤◌, ◌<◌, length, take, drop, if◌then◌else◌};
 ghost use Rattle.rules.specs.Refusals.{first_of};
-ghost use Rattle.rules.specs.Lists.{if◌then◌else◌};
 ghost use Rattle.rules.specs.CallTable.{row_of};
 ghost use Rattle.rules.specs.Runs.{event as event_with, event_of};
 ghost use Rattle.events.specs.declared.Tagged.TheVariants.{Known};

@@ -3,8 +3,8 @@ use Prim.Native.Nat.{ℕ, suc, ◌+◌, ◌-◌, ◌/◌, ◌%◌, ◌≤◌, �
 use mathlib.Core.Path.{◌≡◌, sym, ap, ◌∙◌}
 use mathlib.Core.List.{List, ◌∷◌, ◌++◌}
 use native.Mathlib.Omega.{arith}
-use lib.ListN.{length, take, drop, set, length-set, length-append, length-drop}
-use lib.Seq.{append_snoc, drop-cons, drop-set-lt, get_or-set_same, take_all}
+use lib.ListN.{length, drop, set, length-set, length-append}
+use lib.Seq.{append_snoc, drop-cons, drop-set-lt, get_or-set_same}
 use Rattle.listing.specs.Decimal.{decimal}
 use Rattle.listing.specs.Written.{Ends}
 use Rattle.listing.proofs.Decimal.{decimal-one, decimal-more, decimal-leads}
@@ -44,8 +44,3 @@ module _ {n high at : ℕ} {bytes : List ℕ} (e : Ending n high at bytes) where
     within = omega arith;
     is = put (48 + high) ∙ sym (e.is ∙ ap (λ (t : List ℕ). t ++ drop at bytes) (decimal-one high one));
   }
-
--- the part of the array from the place on is the text
-pub ends-part : {at : ℕ} {bytes text : List ℕ} → Ends at bytes text → take (10 - at) (drop at bytes) ≡ text
-ends-part {at} {bytes} {text} e =
-    take_all (10 - at) (drop at bytes) (simp length-drop (omega arith)) ∙ e.is

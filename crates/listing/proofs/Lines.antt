@@ -1,33 +1,12 @@
--- How a line grows by a byte and by a text, and what it then holds.
-use Prim.Native.Nat.{ℕ, zero, suc, ◌+◌, ◌-◌, ◌≤◌, ◌<◌}
-use mathlib.Core.Path.{◌≡◌, refl, sym, ap, ◌∙◌}
-use mathlib.Core.List.{List, [], ◌∷◌, ◌++◌, append_assoc}
-use native.Mathlib.Nat.{le_refl}
-use native.Mathlib.Numerals.{add-one}
+-- What a line holds after one text and then another, and that a text makes one line.
+use Prim.Native.Nat.{ℕ, zero, suc, ◌-◌, ◌≤◌}
+use mathlib.Core.Path.{◌≡◌, sym, ap, ◌∙◌}
+use mathlib.Core.List.{List, [], ◌++◌, append_assoc}
 use native.Mathlib.Omega.{arith}
-use lib.ListN.{length, drop, set, replicate, length-append, take-append-drop}
-use lib.Seq.{drop-drop, drop-set-lt, take-suc-set, take-length, paste, take-paste, drop-paste}
+use lib.ListN.{length, drop, replicate, length-append, take-append-drop}
+use lib.Seq.{drop-drop}
 use Rattle.listing.specs.declared.Line.{Line}
 use Rattle.listing.specs.Written.{text_of, Written, Appended}
-
--- one byte more
-pub byte_more : (l : Line) (b : ℕ) → l.len < length l.bytes → Appended l (b ∷ []) (record { len = l.len + 1; bytes = set l.bytes l.len b })
-byte_more l b h = record {
-  len = refl;
-  is = rw (add-one l.len) (take-suc-set l.bytes l.len b h);
-  rest = drop-set-lt (l.len + 1) l.bytes l.len b (omega arith);
-}
-
--- a text more: i of its bytes, and those are all, have been copied behind the line's own
-pub text-more : (l : Line) (text bytes : List ℕ) (i : ℕ) → l.len + length text ≤ length l.bytes → i ≡ length text → bytes ≡ paste l.bytes l.len text i → Appended l text (record { len = l.len + length text; bytes = bytes })
-text-more l text bytes i h end copied =
-    let all : bytes ≡ paste l.bytes l.len text (length text) = copied ∙ ap (paste l.bytes l.len text) end in
-    let fits : l.len ≤ length l.bytes = omega arith in
-    record {
-      len = refl;
-      is = rw all (take-paste l.bytes l.len text (length text) fits (le_refl (length text)) ∙ ap (λ (t : List ℕ). text_of l ++ t) (take-length text));
-      rest = rw all (drop-paste l.bytes l.len text (length text) fits (le_refl (length text)));
-    }
 
 -- a text and then another
 pub append-then : {l m r : Line} {s t : List ℕ} → Appended l s m → Appended m t r → Appended l (s ++ t) r

@@ -141,6 +141,7 @@ fn with_name(l: Line, name: Name) -> Line
 }
 
 // The line with the word of a state behind it.
+#[tactic(auto, unfolding(rules::specs::Said::word_of))]
 fn with_mode(l: Line, mode: Mode) -> Line
     requires { l.len + 7 ≤ 64 }
     ensures { Appended l (word_of mode) result }
@@ -184,6 +185,7 @@ fn with_clash(l: Line, tenant: u8, serial: u16, on: u8) -> Line
 }
 
 // The line with an answer behind it.
+#[tactic(auto, unfolding(crate::specs::Listing::answer_text))]
 fn with_answer(l: Line, answer: Answer) -> Line
     requires { l.len + 21 ≤ 64 }
     ensures appended { Appended l (answer_text answer) result }
@@ -201,6 +203,7 @@ fn with_answer(l: Line, answer: Answer) -> Line
 }
 
 // The line with the fuel that is left behind it, or `-`.
+#[tactic(auto, unfolding(crate::specs::Listing::left_text))]
 fn with_left(l: Line, left: Left) -> Line
     requires { l.len + 10 ≤ 64 }
     ensures appended { Appended l (left_text left) result }

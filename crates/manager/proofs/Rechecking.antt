@@ -1,4 +1,5 @@
 -- A Recheck: what the counters tell of the entry, and the table once its tenant has paid.
+use Rattle.std.specs.Prelude.{if◌then◌else◌}
 use Prim.Native.Nat.{ℕ, ◌+◌, ◌-◌, ◌≤◌, ◌<◌}
 use native.Mathlib.Omega.{arith}
 use mathlib.Core.Path.{◌≡◌, refl, sym, ap, subst, ◌∙◌}
@@ -8,7 +9,7 @@ use lib.Dec.{eqb}
 use lib.ListN.{length, get_or, set}
 use Rattle.rules.specs.declared.Answer.{Answer}
 use Rattle.rules.specs.declared.Answer.TheVariants.{Still}
-use Rattle.rules.specs.Lists.{if◌then◌else◌, every}
+use Rattle.rules.specs.Lists.{every}
 use Rattle.rules.specs.Records.{member}
 use Rattle.rules.specs.Request.{Request, nobody, size, promoted}
 use Rattle.rules.specs.Table.{Meter as LawMeter, Table, is_tenant, meter_of, spent}

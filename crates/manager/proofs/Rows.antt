@@ -1,4 +1,5 @@
 -- The refusals that are told from numbers are the law book's.
+use Rattle.std.specs.Prelude.{if◌then◌else◌}
 use Prim.Native.Nat.{ℕ, ◌+◌, ◌-◌, ◌≤◌, ◌<◌}
 use mathlib.Core.Path.{◌≡◌, refl, sym, ap, ◌∙◌}
 use mathlib.Core.Bool.{Bool, true, false, ◌||◌, not}
@@ -7,7 +8,6 @@ use lib.Dec.{eqb, ltb, leb}
 use native.Mathlib.Omega.{arith}
 use lib.ListN.{length, get_or}
 use borrow.Author.Tests.{ltb-false}
-use Rattle.rules.specs.Lists.{if◌then◌else◌}
 use Rattle.rules.specs.Request.{Request, nobody, requested, reduced, size, is_free, is_blocked}
 use Rattle.rules.specs.Table.{Meter as LawMeter, Table, new_meter, is_tenant, meter_of, places_of, most_fuel}
 use Rattle.rules.specs.Prices.{clause9}

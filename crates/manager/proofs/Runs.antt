@@ -1,8 +1,8 @@
 -- From the law book to the code: a run of the real calls has the answers, burnt counts and views of the law book's run.
+use Rattle.std.specs.Prelude.{if◌then◌else◌}
 use mathlib.Core.Path.{◌≡◌, refl, sym, ap, ◌∙◌}
 use mathlib.Core.Bool.{Bool, true, false}
 use mathlib.Core.List.{List, [], ◌∷◌, map}
-use Rattle.rules.specs.Lists.{if◌then◌else◌}
 use Rattle.rules.specs.Table.{Table}
 use Rattle.rules.specs.Prices.{clause9}
 use Rattle.rules.specs.Sound.{Each, none, also}

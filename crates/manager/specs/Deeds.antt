@@ -1,7 +1,6 @@
 -- The deeds of calls: paying for a refusal, joining and leaving.
-use Rattle.std.specs.Prelude.{ℕ, ◌-◌, ◌≡◌, List, map, get_or, set}
+use Rattle.std.specs.Prelude.{ℕ, ◌-◌, ◌≡◌, List, map, get_or, set, if◌then◌else◌}
 use Rattle.rules.specs.declared.Answer.TheVariants.{Done, Refused, BlockedOn}
-use Rattle.rules.specs.Lists.{if◌then◌else◌}
 use Rattle.rules.specs.Request.{Request, promoted}
 use Rattle.rules.specs.Table.{Table, is_tenant, with_queue, meter_of, spent, burn}
 use Rattle.rules.specs.Prices.{clause9, prices_of, charge}

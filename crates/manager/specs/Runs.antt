@@ -1,7 +1,6 @@
 -- A run of the code: real calls one after the other, each on the state that the one before gave back, and each with a result
 -- that its contract allows. A state is a value, so a caller may also go on from an old one: each such branch is a run of its own.
-use Rattle.std.specs.Prelude.{ℕ, ◌≡◌, List, [], ◌∷◌, map}
-use Rattle.rules.specs.Lists.{if◌then◌else◌}
+use Rattle.std.specs.Prelude.{ℕ, ◌≡◌, List, [], ◌∷◌, map, if◌then◌else◌}
 use Rattle.rules.specs.Table.{Table}
 use Rattle.rules.specs.Prices.{Prices, clause9, prices_of}
 use Rattle.rules.specs.Calls.{Outcome, open_of}

@@ -1,6 +1,5 @@
 // The meter of a call's tenant.
-ghost use Rattle.std.specs.Prelude.{◌≡◌};
-ghost use Rattle.rules.specs.Lists.{if◌then◌else◌};
+ghost use Rattle.std.specs.Prelude.{◌≡◌, if◌then◌else◌};
 ghost use Rattle.rules.specs.Table.{new_meter, is_tenant};
 ghost use Rattle.meter.specs.View.{meter_view};
 ghost use Rattle.manager.specs.Deeds.{meter_in};

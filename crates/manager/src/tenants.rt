@@ -1,6 +1,5 @@
 // What any caller may read: who is a tenant, and the fuel that a tenant has.
-ghost use Rattle.std.specs.Prelude.{◌≡◌};
-ghost use Rattle.rules.specs.Lists.{if◌then◌else◌};
+ghost use Rattle.std.specs.Prelude.{◌≡◌, if◌then◌else◌};
 ghost use Rattle.rules.specs.Table.{is_tenant, meter_of};
 ghost use Rattle.manager.specs.State.{view};
 

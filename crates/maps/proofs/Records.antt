@@ -1,5 +1,6 @@
 -- What the words of a map say of its records: the records of one word behind those below it, how many there are, two maps
 -- together, and that a map is its records.
+use Rattle.std.specs.Prelude.{if◌then◌else◌}
 use Prim.Native.Nat.{ℕ, zero, suc, ◌+◌, ◌*◌, ◌/◌, ◌%◌, ◌≤◌, ◌<◌}
 use mathlib.Core.Path.{◌≡◌, refl, sym, ap, ◌∙◌}
 use mathlib.Core.Bool.{Bool, true, false}
@@ -10,7 +11,6 @@ use lib.ListN.{length, get_or, set}
 use lib.Seq.{ext_get_or}
 use lib.Bits.{bit_or}
 use borrow.Author.Tests.{ltb-true, ltb-false}
-use Rattle.rules.specs.Lists.{if◌then◌else◌}
 use Rattle.rules.specs.Clash.{how_many}
 use Rattle.maps.specs.Maps.{bit_set, in_map, Words, clash_in, ClashBits, Union}
 use Rattle.maps.proofs.Words.{or-bit, same_bits}

@@ -1,4 +1,5 @@
 -- Laws of the bits of a word: the word 0, two words combined, a word of one bit; its lowest bit, and how many are set.
+use Rattle.std.specs.Prelude.{if◌then◌else◌}
 use Prim.Native.Nat.{ℕ, zero, suc, ◌+◌, ◌-◌, ◌*◌, ◌/◌, ◌%◌, ◌^◌, ◌≤◌, ◌<◌, min, max}
 use mathlib.Core.Path.{◌≡◌, refl, sym, ap, ◌∙◌}
 use mathlib.Core.Bool.{Bool, true, false, ◌&&◌, ◌||◌, not}
@@ -12,7 +13,6 @@ use lib.Pow.{pow_pos, pow-lt, pow-add, shr-shr, shl_exact, shl-shr}
 use lib.Bits.{bit_and, bit_or, bit_xor, differ, and_mask, and_shr, and_step, or_shr, or_step, xor_shr, xor_step}
 use lib.Count.{ones, ones_step, count_trailing_zeros, under}
 use borrow.Author.Tests.{eqb-true, eqb-false, eq-eqb, ne_eqb}
-use Rattle.rules.specs.Lists.{if◌then◌else◌}
 use Rattle.rules.specs.Clash.{how_many}
 use Rattle.rules.proofs.Tests.{lt-or-ge}
 use Rattle.maps.specs.Maps.{bit_set}

@@ -1,5 +1,6 @@
 -- The ten bench examples hold. E1 and E2 are computed; the others follow from what an admitted request does, and from
 -- the order of the refusals.
+use Rattle.std.specs.Prelude.{if◌then◌else◌}
 use Prim.Native.Nat.{ℕ, ◌+◌, ◌*◌, ◌-◌, ◌≤◌, ◌<◌}
 use mathlib.Core.Path.{◌≡◌, refl, sym, ap, ◌∙◌}
 use mathlib.Core.Bool.{Bool, true, false}
@@ -11,7 +12,7 @@ use borrow.Author.Tests.{eqb-true, ne_eqb, eq-eqb, lt-ltb, lt-leb}
 use Rattle.rules.specs.declared.Mode.{Mode}
 use Rattle.rules.specs.declared.Mode.TheVariants.{Free, Blocked}
 use Rattle.rules.specs.declared.Answer.TheVariants.{Ok, Done, Nothing, BlockedOn}
-use Rattle.rules.specs.Lists.{if◌then◌else◌, some, every, count_if, keep_if, total, before}
+use Rattle.rules.specs.Lists.{some, every, count_if, keep_if, total, before}
 use Rattle.rules.specs.Records.{member, rising, rising_past, meets, only_read, WellFormed}
 use Rattle.rules.specs.Request.{Request, requested, reduced, size, conflict, with_mode, promoted, admitted}
 use Rattle.rules.specs.Table.{Meter, Table, meter_of, places_of, with_meter, fresh, spent, numbered, burn}

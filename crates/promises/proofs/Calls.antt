@@ -1,6 +1,7 @@
 -- Promise 4: a tenant's calls that are not answered dry number at most the fuel granted to it. Each of them burns a unit,
 -- but for a Finish that succeeds: its unit was burnt by its request, and it gives back the place that the request took. So
 -- over any run those calls and the places held number at most what was burnt.
+use Rattle.std.specs.Prelude.{if◌then◌else◌}
 use Prim.Native.Nat.{ℕ, ◌+◌, ◌≤◌}
 use mathlib.Core.Path.{◌≡◌, refl, sym, ap, ◌∙◌}
 use mathlib.Core.Bool.{Bool, true, false, ◌&&◌, not, true≢false, false≢true}
@@ -9,7 +10,7 @@ use native.Mathlib.Omega.{arith}
 use lib.Dec.{eqb}
 use borrow.Author.Tests.{eqb-true, ne_eqb}
 use Rattle.rules.specs.declared.Answer.{Answer}
-use Rattle.rules.specs.Lists.{if◌then◌else◌, count_if, total}
+use Rattle.rules.specs.Lists.{count_if, total}
 use Rattle.rules.specs.Request.{Request, reduced, size, admitted}
 use Rattle.rules.specs.Table.{Table, is_tenant, places_of, fresh}
 use Rattle.rules.specs.Prices.{Prices, admission, searching, charge}

@@ -1,4 +1,5 @@
 -- What any call but Open does to the queue: nothing, or one entry joins, leaves, or is changed in place and keeps its claim.
+use Rattle.std.specs.Prelude.{if◌then◌else◌}
 use Prim.Native.Nat.{ℕ, zero, suc, ◌+◌, ◌-◌, ◌≤◌}
 use mathlib.Core.Path.{◌≡◌, refl, ap}
 use mathlib.Core.Bool.{Bool, true, false, true≢false}
@@ -7,7 +8,6 @@ use native.Mathlib.Omega.{arith}
 use lib.Dec.{eqb}
 use lib.ListN.{get_or, set}
 use Rattle.rules.specs.declared.Answer.TheVariants.{Refused}
-use Rattle.rules.specs.Lists.{if◌then◌else◌}
 use Rattle.rules.specs.Request.{Request, nobody, reduced, conflicts_any, promoted, admitted, delivered}
 use Rattle.rules.specs.Table.{Meter, Table, no_meter, meter_of, with_meter, with_queue, numbered, granted, spent, burn}
 use Rattle.rules.specs.Prices.{Prices}

@@ -1,5 +1,6 @@
 -- Promises 11 and 12. A Waiting entry of a sound table has an answer due. So the front entry can always leave: Pick if it is Blocked,
 -- its answers while it is Waiting, and Finish, which is free; and the queue empties entry by entry.
+use Rattle.std.specs.Prelude.{if◌then◌else◌}
 use Prim.Native.Nat.{ℕ, zero, suc, ◌+◌, ◌-◌, ◌*◌, ◌≤◌, ◌<◌}
 use mathlib.Core.Path.{◌≡◌, refl, sym, ap, subst, ◌∙◌}
 use mathlib.Core.Bool.{Bool, true, false, ◌&&◌, true≢false, false≢true}
@@ -11,7 +12,7 @@ use borrow.Author.Tests.{eq-eqb, ne_eqb, lt-leb}
 use Rattle.rules.specs.declared.Mode.{Mode}
 use Rattle.rules.specs.declared.Mode.TheVariants.{Free, Waiting, Blocked}
 use Rattle.rules.specs.declared.Answer.{Answer}
-use Rattle.rules.specs.Lists.{if◌then◌else◌, every, before}
+use Rattle.rules.specs.Lists.{every, before}
 use Rattle.rules.specs.Request.{Request, nobody, is_free, is_waiting, is_blocked, promoted, delivered}
 use Rattle.rules.specs.Table.{Meter, Table, is_tenant}
 use Rattle.rules.specs.Prices.{Prices}

@@ -1,5 +1,6 @@
 -- Promises 1 and 2: a call burns its price; the caller's fuel falls by that, no other call changes it but Grant, and so
 -- what was granted is what was burnt and what is left.
+use Rattle.std.specs.Prelude.{if◌then◌else◌}
 use Prim.Native.Nat.{ℕ, zero, suc, ◌+◌, ◌-◌, ◌≤◌}
 use mathlib.Core.Path.{◌≡◌, refl, ap}
 use mathlib.Core.Bool.{Bool, true, false, true≢false}
@@ -10,7 +11,7 @@ use lib.ListN.{get_or, replicate, length-set}
 use borrow.Author.Tests.{eqb-true, ltb-false}
 use Rattle.rules.specs.declared.Answer.{Answer}
 use Rattle.rules.specs.declared.Answer.TheVariants.{Ok, Refused}
-use Rattle.rules.specs.Lists.{if◌then◌else◌, total}
+use Rattle.rules.specs.Lists.{total}
 use Rattle.rules.specs.Request.{Request, reduced, size, admitted}
 use Rattle.rules.specs.Table.{Meter, Table, is_tenant, no_meter, meter_of, with_queue, with_meter, spent, granted, numbered, new_meter, fresh}
 use Rattle.rules.specs.Prices.{Prices, admission, searching}

@@ -1,4 +1,5 @@
 -- The places that a tenant holds once an entry has joined, left, or been changed in place.
+use Rattle.std.specs.Prelude.{if◌then◌else◌}
 use Prim.Native.Nat.{ℕ, ◌+◌, ◌<◌}
 use mathlib.Core.Path.{◌≡◌, refl, ap}
 use mathlib.Core.Bool.{Bool, true, false}
@@ -8,7 +9,7 @@ use native.Mathlib.Omega.{arith}
 use lib.Dec.{eqb}
 use lib.ListN.{length, get_or, set}
 use borrow.Author.Tests.{eqb-true}
-use Rattle.rules.specs.Lists.{if◌then◌else◌, before}
+use Rattle.rules.specs.Lists.{before}
 use Rattle.rules.specs.Request.{Request, nobody, is_named, promoted, admitted, delivered}
 use Rattle.rules.specs.Table.{Table, places_of}
 use Rattle.rules.specs.Refusals.{stands_at, is_absent, entry_of}

@@ -1,5 +1,6 @@
 -- Promise 6: a refused call changes nothing but fuel, and burns the table's charge. The rows of a tenant's call let it pass,
 -- or give 1 to a stranger, 2 to a dry tank, and otherwise a number that is charged, where there is fuel.
+use Rattle.std.specs.Prelude.{if◌then◌else◌}
 use Prim.Native.Nat.{ℕ, zero, suc, ◌-◌, ◌<◌, min}
 use mathlib.Core.Path.{◌≡◌, refl, subst, ap, ◌∙◌}
 use mathlib.Core.Bool.{Bool, true, false, ◌&&◌, ◌||◌, not, true≢false}
@@ -10,7 +11,7 @@ use lib.ListN.{length, get_or, set, replicate}
 use borrow.Author.Tests.{eqb-true, eqb-false, not-true, not-false}
 use Rattle.rules.specs.declared.Answer.{Answer}
 use Rattle.rules.specs.declared.Answer.TheVariants.{Ok, Still, Refused}
-use Rattle.rules.specs.Lists.{if◌then◌else◌, some, every, total}
+use Rattle.rules.specs.Lists.{some, every, total}
 use Rattle.rules.specs.Records.{member}
 use Rattle.rules.specs.Request.{Request, reduced, is_free, is_blocked, promoted}
 use Rattle.rules.specs.Table.{Meter, Table, is_tenant, no_meter, meter_of, spent, burn, fresh}

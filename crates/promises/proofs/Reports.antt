@@ -1,5 +1,6 @@
 -- A record on which a request is held up is one on which it clashes, and the law book's Begin reports the lowest. No other call has
 -- an answer with a record.
+use Rattle.std.specs.Prelude.{if◌then◌else◌}
 use Prim.Native.Nat.{ℕ}
 use mathlib.Core.Path.{◌≡◌, refl, sym, ap, ◌∙◌}
 use mathlib.Core.Bool.{Bool, true, false, true≢false}
@@ -7,7 +8,6 @@ use mathlib.Core.List.{List, []}
 use lib.Dec.{eqb}
 use Rattle.rules.specs.declared.Answer.{Answer}
 use Rattle.rules.specs.declared.Answer.TheVariants.{Refused}
-use Rattle.rules.specs.Lists.{if◌then◌else◌}
 use Rattle.rules.specs.Request.{Request, reduced, conflicts_any, promoted}
 use Rattle.rules.specs.Prices.{Prices}
 use Rattle.rules.specs.Refusals.{first_of, entry_of, finish_rows, recheck_rows, scan_rows, grant_rows, open_rows, deliver_rows, evict_rows, cancel_rows}

@@ -1,5 +1,6 @@
 -- Promises 18 and 19: an entry that leaves takes its counts and its place with it and nothing else, and no other call of a neighbour
 -- or of the host takes a place. A name is one entry's, so the one that is named is the one that leaves.
+use Rattle.std.specs.Prelude.{if◌then◌else◌}
 use Prim.Native.Nat.{ℕ, suc, ◌+◌, ◌<◌}
 use mathlib.Core.Path.{◌≡◌, refl, sym, ap, ◌∙◌}
 use mathlib.Core.Bool.{Bool, true, false, not, true≢false}
@@ -10,7 +11,7 @@ use lib.ListN.{length, length-append}
 use lib.Seq.{take-append_seam, drop-append-add, get_or-append_seam}
 use borrow.Author.Tests.{eqb-true, ne_eqb, lt-leb}
 use Rattle.rules.specs.declared.Answer.TheVariants.{Done}
-use Rattle.rules.specs.Lists.{if◌then◌else◌, before, count_if}
+use Rattle.rules.specs.Lists.{before, count_if}
 use Rattle.rules.specs.Records.{member}
 use Rattle.rules.specs.Request.{Request, nobody, reduced, is_named, is_blocked}
 use Rattle.rules.specs.Table.{Table, places_of, with_queue, burn}

@@ -1,9 +1,9 @@
 -- The ten bench examples of document 01, as one statement.
-use Rattle.std.specs.Prelude.{ℕ, ◌+◌, ◌*◌, ◌≤◌, ◌≡◌, true, List, [], ◌∷◌, eqb, length, take}
+use Rattle.std.specs.Prelude.{ℕ, ◌+◌, ◌*◌, ◌≤◌, ◌≡◌, true, List, [], ◌∷◌, eqb, length, take, if◌then◌else◌}
 use Rattle.rules.specs.declared.Mode.{Mode}
 use Rattle.rules.specs.declared.Mode.TheVariants.{Free, Blocked}
 use Rattle.rules.specs.declared.Answer.TheVariants.{Ok, Done, Nothing, BlockedOn}
-use Rattle.rules.specs.Lists.{if◌then◌else◌, total}
+use Rattle.rules.specs.Lists.{total}
 use Rattle.rules.specs.Records.{rising}
 use Rattle.rules.specs.Request.{Request, requested, with_mode}
 use Rattle.rules.specs.Table.{Meter, Table, is_tenant, meter_of}

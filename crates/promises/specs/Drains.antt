@@ -1,7 +1,7 @@
 -- Document 02, item 2: nobody waits for nothing, and whatever was admitted can come to its end. From every sound table the calls Pick,
 -- Deliver and Finish alone empty the queue, and nobody needs fuel for it.
-use Rattle.std.specs.Prelude.{ℕ, ◌*◌, ◌≤◌, ◌<◌, ◌≡◌, Bool, true, false, List, [], ◌∷◌, ◌++◌, length, replicate}
-use Rattle.rules.specs.Lists.{if◌then◌else◌, every}
+use Rattle.std.specs.Prelude.{ℕ, ◌*◌, ◌≤◌, ◌<◌, ◌≡◌, Bool, true, false, List, [], ◌∷◌, ◌++◌, length, replicate, if◌then◌else◌}
+use Rattle.rules.specs.Lists.{every}
 use Rattle.rules.specs.Request.{Request, is_waiting, is_blocked}
 use Rattle.rules.specs.Table.{Table, with_queue}
 use Rattle.rules.specs.Prices.{Prices}

@@ -1,6 +1,6 @@
 -- Demand 3, the fuel of a tenant over any run of calls, whatever the other tenants and the host do.
-use Rattle.std.specs.Prelude.{ℕ, ◌+◌, ◌*◌, ◌≤◌, ◌≡◌, true, false, ◌&&◌, not, List, eqb, leb, length}
-use Rattle.rules.specs.Lists.{if◌then◌else◌, count_if, total}
+use Rattle.std.specs.Prelude.{ℕ, ◌+◌, ◌*◌, ◌≤◌, ◌≡◌, true, false, ◌&&◌, not, List, eqb, leb, length, if◌then◌else◌}
+use Rattle.rules.specs.Lists.{count_if, total}
 use Rattle.rules.specs.Records.{member}
 use Rattle.rules.specs.Request.{Request}
 use Rattle.rules.specs.Table.{Table, is_tenant, meter_of}

@@ -1,7 +1,7 @@
 -- Why document 01's rule of promotion had to go: by it a run reaches a queue that no Pick, Deliver or Finish ever changes.
-use Rattle.std.specs.Prelude.{ℕ, ◌≡◌, true, List, [], ◌∷◌, ltb, replicate}
+use Rattle.std.specs.Prelude.{ℕ, ◌≡◌, true, List, [], ◌∷◌, ltb, replicate, if◌then◌else◌}
 use Rattle.rules.specs.declared.Mode.TheVariants.{Free, Waiting}
-use Rattle.rules.specs.Lists.{if◌then◌else◌, every}
+use Rattle.rules.specs.Lists.{every}
 use Rattle.rules.specs.Request.{Request, requested, with_mode, is_blocked, promoted}
 use Rattle.rules.specs.Table.{Table}
 use Rattle.rules.specs.Prices.{Prices, clause9}

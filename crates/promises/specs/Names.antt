@@ -1,7 +1,7 @@
 -- "serials given so far (at most 65,535, never given twice)": whom a run admitted, and under which names.
-use Rattle.std.specs.Prelude.{ℕ, ◌≡◌, Bool, true, false, ◌&&◌, not, List, [], ◌∷◌, ◌++◌, eqb}
+use Rattle.std.specs.Prelude.{ℕ, ◌≡◌, Bool, true, false, ◌&&◌, not, List, [], ◌∷◌, ◌++◌, eqb, if◌then◌else◌}
 use Rattle.rules.specs.declared.Answer.{Answer}
-use Rattle.rules.specs.Lists.{if◌then◌else◌, some, every}
+use Rattle.rules.specs.Lists.{some, every}
 use Rattle.rules.specs.Records.{only_read}
 use Rattle.rules.specs.Request.{Request, is_named}
 use Rattle.rules.specs.Table.{Table}

@@ -1,8 +1,8 @@
 -- What `KeepsOrder` rules out: by each of two wrong rules of the law book a run of a few calls breaks it, and by the law book's own
 -- no calls do.
-use Rattle.std.specs.Prelude.{ℕ, ◌≡◌, Bool, true, ◌&&◌, not, List, [], ◌∷◌, ◌++◌, eqb, length}
+use Rattle.std.specs.Prelude.{ℕ, ◌≡◌, Bool, true, ◌&&◌, not, List, [], ◌∷◌, ◌++◌, eqb, length, if◌then◌else◌}
 use Rattle.rules.specs.declared.Answer.TheVariants.{Nothing, BlockedOn}
-use Rattle.rules.specs.Lists.{if◌then◌else◌, some, every}
+use Rattle.rules.specs.Lists.{some, every}
 use Rattle.rules.specs.Request.{Request, reduced, conflict, is_free, is_blocked, promoted, admitted}
 use Rattle.rules.specs.Table.{Table}
 use Rattle.rules.specs.Prices.{clause9, admission, searching}

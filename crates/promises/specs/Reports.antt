@@ -1,10 +1,10 @@
 -- Document 02, item 5, as plugin writers rely on it: what a Begin reports of the record that held it up, and that no other call
 -- reports one. All is told from the lists as given, and from those of the queued entries.
-use Rattle.std.specs.Prelude.{ℕ, ◌≤◌, ◌≡◌, Bool, true, false, List, [], ltb}
+use Rattle.std.specs.Prelude.{ℕ, ◌≤◌, ◌≡◌, Bool, true, false, List, [], ltb, if◌then◌else◌}
 use Rattle.rules.specs.declared.Mode.TheVariants.{Free, Waiting}
 use Rattle.rules.specs.declared.Answer.{Answer}
 use Rattle.rules.specs.declared.Answer.TheVariants.{Named, BlockedOn}
-use Rattle.rules.specs.Lists.{if◌then◌else◌, some}
+use Rattle.rules.specs.Lists.{some}
 use Rattle.rules.specs.Request.{Request}
 use Rattle.rules.specs.Table.{Table}
 use Rattle.rules.specs.CallTable.{is_request}

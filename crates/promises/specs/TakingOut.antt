@@ -1,8 +1,8 @@
 -- Document 02, item 7, "Taking a stuck request out": what an eviction takes from a tenant, what evict and cancel leave of the queue,
 -- and whom the next Scan then promotes.
-use Rattle.std.specs.Prelude.{ℕ, ◌+◌, ◌≤◌, ◌<◌, ◌≡◌, Bool, true, false, ◌&&◌, not, List, [], ◌∷◌, ◌++◌, map, eqb, length, get_or, take}
+use Rattle.std.specs.Prelude.{ℕ, ◌+◌, ◌≤◌, ◌<◌, ◌≡◌, Bool, true, false, ◌&&◌, not, List, [], ◌∷◌, ◌++◌, map, eqb, length, get_or, take, if◌then◌else◌}
 use Rattle.rules.specs.declared.Answer.TheVariants.{Done}
-use Rattle.rules.specs.Lists.{if◌then◌else◌, every}
+use Rattle.rules.specs.Lists.{every}
 use Rattle.rules.specs.Records.{member}
 use Rattle.rules.specs.Request.{Request, nobody, is_named, is_blocked, conflicts_any}
 use Rattle.rules.specs.Table.{Table, is_tenant, places_of, with_queue, burn}

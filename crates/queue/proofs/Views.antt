@@ -1,4 +1,5 @@
 -- The queue's slots and its list of requests: how a change of the slots changes the list.
+use Rattle.std.specs.Prelude.{if◌then◌else◌}
 use Prim.Native.Nat.{ℕ, suc, ◌+◌, ◌-◌, ◌≤◌, ◌<◌}
 use mathlib.Core.Path.{◌≡◌, refl, sym, ap, subst, ◌∙◌}
 use mathlib.Core.List.{List, [], ◌∷◌, ◌++◌, map, map-append}
@@ -10,7 +11,7 @@ use native.Mathlib.Omega.{arith}
 use lib.Dec.{eqb}
 use lib.ListN.{length, get_or, take, drop, set, replicate, length-map, length-take, get_or-map, drop_of_length-le}
 use lib.Seq.{get_or-take, take-set-lt, take-suc-set, drop-set-lt, get_or-set_same, get_or-set_other}
-use Rattle.rules.specs.Lists.{if◌then◌else◌, count_if, before}
+use Rattle.rules.specs.Lists.{count_if, before}
 use Rattle.rules.specs.Request.{Request, nobody, is_named}
 use Rattle.rules.specs.Table.{places_of}
 use Rattle.rules.specs.Refusals.{stands_at}

@@ -1,4 +1,5 @@
 -- How a piece grows by a line, and a place goes on.
+use Rattle.std.specs.Prelude.{if◌then◌else◌}
 use Prim.Native.Nat.{ℕ, suc, ◌+◌, ◌-◌, ◌≤◌, ◌<◌}
 use mathlib.Core.Path.{◌≡◌, refl, sym, ap, ◌∙◌}
 use mathlib.Core.Bool.{Bool, true, false}
@@ -7,7 +8,6 @@ use native.Mathlib.Omega.{arith}
 use borrow.Author.Tests.{ltb-false}
 use lib.ListN.{length, take, drop, length-take, length-append, length-replicate, take-append-drop}
 use lib.Seq.{paste, take-paste, take-take, take-append-add, length-paste}
-use Rattle.rules.specs.Lists.{if◌then◌else◌}
 use Rattle.manager.specs.declared.State.{State}
 use Rattle.manager.specs.State.{view, Sound}
 use Rattle.events.specs.Events.{too_long}

@@ -1,6 +1,5 @@
 -- A listing in pieces.
-use Rattle.std.specs.Prelude.{ℕ, ◌+◌, ◌≤◌, ◌<◌, ◌≡◌, true, List, [], ◌++◌, length, take}
-use Rattle.rules.specs.Lists.{if◌then◌else◌}
+use Rattle.std.specs.Prelude.{ℕ, ◌+◌, ◌≤◌, ◌<◌, ◌≡◌, true, List, [], ◌++◌, length, take, if◌then◌else◌}
 use Rattle.manager.specs.State.{view, Sound}
 use Rattle.replay.specs.Replay.{lines_left}
 use Rattle.replay.specs.declared.piece.Place.{Place}

@@ -1,8 +1,7 @@
 -- One step of an event file, and the listing of the whole file.
-use Rattle.std.specs.Prelude.{ℕ, zero, suc, ◌+◌, ◌-◌, ◌≡◌, Bool, true, false, List, [], ◌++◌, length, replicate}
+use Rattle.std.specs.Prelude.{ℕ, zero, suc, ◌+◌, ◌-◌, ◌≡◌, Bool, true, false, List, [], ◌++◌, length, replicate, if◌then◌else◌}
 use Rattle.rules.specs.declared.Answer.TheVariants.{Refused}
 use Rattle.rules.specs.declared.Event.{Event}
-use Rattle.rules.specs.Lists.{if◌then◌else◌}
 use Rattle.rules.specs.Table.{Table, meter_of, is_tenant, fresh}
 use Rattle.rules.specs.Prices.{prices_of}
 use Rattle.rules.specs.Runs.{Call, event_of, step}

@@ -1,4 +1,5 @@
 -- What keeps a table sound: a meter changed, an entry added, taken out or put in another's place.
+use Rattle.std.specs.Prelude.{if◌then◌else◌}
 use Prim.Native.Nat.{ℕ, ◌-◌, ◌≤◌, ◌<◌}
 use mathlib.Core.Path.{◌≡◌, refl, sym, ap, ◌∙◌}
 use mathlib.Core.Bool.{Bool, true, false}
@@ -9,7 +10,6 @@ use lib.ListN.{length, get_or, take, set, length-set}
 use lib.Seq.{set-get_or}
 use borrow.Author.Tests.{ltb-true, ltb-false, eqb-true}
 use Rattle.rules.specs.declared.Mode.TheVariants.{Free, Waiting}
-use Rattle.rules.specs.Lists.{if◌then◌else◌}
 use Rattle.rules.specs.Records.{Stored}
 use Rattle.rules.specs.Request.{Request, nobody, conflict, with_mode, promoted}
 use Rattle.rules.specs.Table.{Meter, Table, is_tenant, no_meter, meter_of, with_meter, with_queue, places_of, spent, burn, most_fuel, most_serials}

@@ -1,4 +1,5 @@
 -- The reduced lists: a record in both is only written. No other record, no conflict and no order is lost by it.
+use Rattle.std.specs.Prelude.{if◌then◌else◌}
 use Prim.Native.Nat.{ℕ, ◌+◌, ◌≤◌}
 use mathlib.Core.Path.{◌≡◌, refl, sym, ap, ◌∙◌}
 use mathlib.Core.Bool.{Bool, true, false, ◌&&◌, ◌||◌, not, true≢false}
@@ -7,7 +8,7 @@ use native.Mathlib.Omega.{arith}
 use lib.Dec.{eqb}
 use lib.ListN.{length}
 use borrow.Author.Tests.{eqb-true}
-use Rattle.rules.specs.Lists.{if◌then◌else◌, some, count_if, keep_if}
+use Rattle.rules.specs.Lists.{some, count_if, keep_if}
 use Rattle.rules.specs.Records.{member, meets, only_read}
 use Rattle.rules.specs.Request.{Request, reduced, conflict, conflicts_any}
 use Rattle.rules.specs.Reduced.{OnlyReadExact, ReducedRaises, ReducedConflicts, ReducedStored, ReducedSame}

@@ -1,4 +1,5 @@
 -- Laws of single requests.
+use Rattle.std.specs.Prelude.{if◌then◌else◌}
 use Prim.Native.Nat.{ℕ, ◌-◌, ◌<◌}
 use mathlib.Core.Path.{◌≡◌, refl}
 use mathlib.Core.Bool.{Bool, true, false, ◌&&◌, ◌||◌}
@@ -8,7 +9,7 @@ use native.Mathlib.Omega.{arith}
 use lib.ListN.{length}
 use lib.Dec.{eqb}
 use Rattle.rules.specs.declared.Mode.TheVariants.{Free}
-use Rattle.rules.specs.Lists.{if◌then◌else◌, some}
+use Rattle.rules.specs.Lists.{some}
 use Rattle.rules.specs.Records.{member, meets}
 use Rattle.rules.specs.Request.{Request, size, conflict, conflicts_any, is_waiting, with_mode, with_due, promoted, admitted, delivered}
 use Rattle.rules.proofs.Tests.{either, if-either}

@@ -1,4 +1,5 @@
 -- "There is no queue full": the places of the tenants add up to the queue, and the shares to at most 64.
+use Rattle.std.specs.Prelude.{if◌then◌else◌}
 use Prim.Native.Nat.{ℕ, suc, ◌+◌, ◌-◌, ◌≤◌, ◌<◌}
 use mathlib.Core.Path.{◌≡◌, refl, sym, ◌∙◌}
 use mathlib.Core.Bool.{Bool, true, false}
@@ -7,7 +8,7 @@ use native.Mathlib.Omega.{arith}
 use lib.Dec.{eqb}
 use lib.ListN.{length, get_or, length-append}
 use borrow.Author.Tests.{eqb-true, eqb-false, ne_eqb}
-use Rattle.rules.specs.Lists.{if◌then◌else◌, count_if, total}
+use Rattle.rules.specs.Lists.{count_if, total}
 use Rattle.rules.specs.Request.{Request}
 use Rattle.rules.specs.Table.{Meter, Table, is_tenant, no_meter, meter_of, places_of}
 use Rattle.rules.specs.Sound.{Each, SoundBy}

@@ -1,4 +1,5 @@
 -- Every call keeps a table sound, and an opening makes one, whatever the prices.
+use Rattle.std.specs.Prelude.{if◌then◌else◌}
 use Prim.Native.Nat.{ℕ, ◌+◌, ◌-◌, ◌≤◌, ◌<◌}
 use mathlib.Core.Path.{◌≡◌, refl, sym, ap, ◌∙◌}
 use mathlib.Core.Bool.{Bool, true, false, ◌&&◌}
@@ -9,7 +10,7 @@ use lib.ListN.{length, get_or, take, drop, replicate, length-map}
 use borrow.Author.Tests.{eqb-true, eqb-false, not-true}
 use Rattle.rules.specs.declared.Mode.{Mode}
 use Rattle.rules.specs.declared.Mode.TheVariants.{Free, Waiting, Blocked}
-use Rattle.rules.specs.Lists.{if◌then◌else◌, some, total, count_if}
+use Rattle.rules.specs.Lists.{some, total, count_if}
 use Rattle.rules.specs.Records.{only_read, Stored}
 use Rattle.rules.specs.Request.{Request, nobody, reduced, size, conflict, conflicts_any, is_waiting, is_blocked, with_mode, with_due, promoted, admitted, delivered}
 use Rattle.rules.specs.Table.{Meter, Table, is_tenant, meter_of, with_meter, numbered, granted, places_of, burn, fresh, new_meter, most_fuel, most_serials}

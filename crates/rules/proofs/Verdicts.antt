@@ -1,5 +1,6 @@
 -- The counters and the maps tell conflicts: figure 2's verdict at Begin, Recheck's condition, and the maps of the search; and the
 -- state that a Begin gives.
+use Rattle.std.specs.Prelude.{if◌then◌else◌}
 use Prim.Native.Nat.{ℕ, ◌+◌}
 use mathlib.Core.Path.{◌≡◌, refl, sym, ap, ◌∙◌}
 use mathlib.Core.Bool.{Bool, true, false, ◌&&◌, ◌||◌, not}
@@ -8,7 +9,7 @@ use native.Mathlib.Omega.{arith}
 use lib.Dec.{eqb, ltb}
 use lib.ListN.{get_or}
 use Rattle.rules.specs.declared.Mode.TheVariants.{Free, Waiting, Blocked}
-use Rattle.rules.specs.Lists.{if◌then◌else◌, some, every}
+use Rattle.rules.specs.Lists.{some, every}
 use Rattle.rules.specs.Records.{member, meets}
 use Rattle.rules.specs.Request.{Request, nobody, requested, reduced, conflicts_any, with_mode, promoted, admitted}
 use Rattle.rules.specs.Counters.{cx, cs, figure2, alone}

@@ -1,8 +1,7 @@
 -- The ten calls: each takes a table and its arguments to the table after it, its answer, and the units burnt.
-use Rattle.std.specs.Prelude.{ℕ, ◌+◌, ◌-◌, List, [], ◌∷◌, ◌++◌, eqb, get_or, set, take, drop, replicate}
+use Rattle.std.specs.Prelude.{ℕ, ◌+◌, ◌-◌, List, [], ◌∷◌, ◌++◌, eqb, get_or, set, take, drop, replicate, if◌then◌else◌}
 use Rattle.rules.specs.declared.Answer.{Answer}
 use Rattle.rules.specs.declared.Answer.TheVariants.{Ok, Done, Still, Nothing, Refused, Named, BlockedOn}
-use Rattle.rules.specs.Lists.{if◌then◌else◌}
 use Rattle.rules.specs.Request.{Request, nobody, requested, reduced, size, promoted, admitted, delivered, is_blocked}
 use Rattle.rules.specs.Table.{Table, meter_of, with_meter, with_queue, numbered, granted, burn, fresh}
 use Rattle.rules.specs.Prices.{Prices, admission, searching, charge}

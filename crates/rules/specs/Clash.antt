@@ -1,7 +1,7 @@
 -- Document 02, item 5: on which record a request clashes with those queued before it, and how many records are held.
-use Rattle.std.specs.Prelude.{ℕ, zero, suc, ◌+◌, Bool, ◌&&◌, ◌||◌, List, [], ◌∷◌, ◌++◌, ltb}
+use Rattle.std.specs.Prelude.{ℕ, zero, suc, ◌+◌, Bool, ◌&&◌, ◌||◌, List, [], ◌∷◌, ◌++◌, ltb, if◌then◌else◌}
 use Rattle.rules.specs.declared.Tally.{Tally}
-use Rattle.rules.specs.Lists.{if◌then◌else◌, some, keep_if}
+use Rattle.rules.specs.Lists.{some, keep_if}
 use Rattle.rules.specs.Records.{member}
 use Rattle.rules.specs.Request.{Request}
 use Rattle.rules.specs.Table.{Table}

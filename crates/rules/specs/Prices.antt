@@ -1,6 +1,6 @@
 -- What calls cost. Every definition takes the prices; document 01's are `clause9`.
-use Rattle.std.specs.Prelude.{ℕ, ◌+◌, min, List, [], ◌∷◌}
-use Rattle.rules.specs.Lists.{if◌then◌else◌, total}
+use Rattle.std.specs.Prelude.{ℕ, ◌+◌, min, List, [], ◌∷◌, if◌then◌else◌}
+use Rattle.rules.specs.Lists.{total}
 use Rattle.rules.specs.Records.{member}
 use Rattle.rules.specs.Request.{Request, size}
 use Rattle.rules.specs.Table.{Table}

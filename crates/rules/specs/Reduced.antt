@@ -1,6 +1,5 @@
 -- Theorems on document 02, item 4: what becomes of a record that a request has in both lists.
-use Rattle.std.specs.Prelude.{ℕ, ◌+◌, ◌≡◌, Bool, false, ◌&&◌, not, List, [], ◌∷◌, ◌++◌}
-use Rattle.rules.specs.Lists.{if◌then◌else◌}
+use Rattle.std.specs.Prelude.{ℕ, ◌+◌, ◌≡◌, Bool, false, ◌&&◌, not, List, [], ◌∷◌, ◌++◌, if◌then◌else◌}
 use Rattle.rules.specs.Records.{member, meets, only_read, WellFormed, Stored}
 use Rattle.rules.specs.Request.{Request, reduced, conflict}
 use Rattle.rules.specs.Counters.{cx, cs}

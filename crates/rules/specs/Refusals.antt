@@ -1,6 +1,6 @@
 -- When a call is refused, and with which number: a list for each call, in the order of the paragraph "Order".
-use Rattle.std.specs.Prelude.{ℕ, ◌+◌, Bool, ◌&&◌, ◌||◌, not, List, [], ◌∷◌, eqb, ltb, leb, length, get_or}
-use Rattle.rules.specs.Lists.{if◌then◌else◌, before, total}
+use Rattle.std.specs.Prelude.{ℕ, ◌+◌, Bool, ◌&&◌, ◌||◌, not, List, [], ◌∷◌, eqb, ltb, leb, length, get_or, if◌then◌else◌}
+use Rattle.rules.specs.Lists.{before, total}
 use Rattle.rules.specs.Records.{rising}
 use Rattle.rules.specs.Request.{Request, nobody, reduced, size, is_named, is_free, is_blocked}
 use Rattle.rules.specs.Table.{Table, meter_of, is_tenant, places_of, most_fuel, most_serials}

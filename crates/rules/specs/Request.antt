@@ -1,8 +1,8 @@
 -- A request for locks, as the queue holds it, and when two of them conflict.
-use Rattle.std.specs.Prelude.{ℕ, ◌+◌, ◌-◌, Bool, true, false, ◌&&◌, ◌||◌, List, [], eqb, ltb, length}
+use Rattle.std.specs.Prelude.{ℕ, ◌+◌, ◌-◌, Bool, true, false, ◌&&◌, ◌||◌, List, [], eqb, ltb, length, if◌then◌else◌}
 use Rattle.rules.specs.declared.Mode.{Mode}
 use Rattle.rules.specs.declared.Mode.TheVariants.{Free, Waiting, Blocked}
-use Rattle.rules.specs.Lists.{if◌then◌else◌, some}
+use Rattle.rules.specs.Lists.{some}
 use Rattle.rules.specs.Records.{meets, only_read}
 
 -- "An entry is named by tenant and serial ... It keeps the awaited answers it was opened with and those still due"

@@ -1,8 +1,8 @@
 -- Any call, its price, and sequences of calls from an opening.
-use Rattle.std.specs.Prelude.{ℕ, Bool, ◌&&◌, not, List, [], ◌∷◌, ◌++◌, eqb}
+use Rattle.std.specs.Prelude.{ℕ, Bool, ◌&&◌, not, List, [], ◌∷◌, ◌++◌, eqb, if◌then◌else◌}
 use Rattle.rules.specs.declared.Kind.{Kind}
 use Rattle.rules.specs.declared.Event.{Event}
-use Rattle.rules.specs.Lists.{if◌then◌else◌, total, count_if}
+use Rattle.rules.specs.Lists.{total, count_if}
 use Rattle.rules.specs.Request.{reduced, size}
 use Rattle.rules.specs.Table.{Table}
 use Rattle.rules.specs.CallTable.{Role, row_of, is_opening, payer}

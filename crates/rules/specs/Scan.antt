@@ -1,6 +1,6 @@
 -- The search from the front: what it looks at, where it stops; and the two maps that it keeps.
-use Rattle.std.specs.Prelude.{ℕ, ◌-◌, Bool, false, ◌&&◌, ◌||◌, not, List, [], ◌∷◌, ◌++◌, eqb, ltb, length}
-use Rattle.rules.specs.Lists.{if◌then◌else◌, some}
+use Rattle.std.specs.Prelude.{ℕ, ◌-◌, Bool, false, ◌&&◌, ◌||◌, not, List, [], ◌∷◌, ◌++◌, eqb, ltb, length, if◌then◌else◌}
+use Rattle.rules.specs.Lists.{some}
 use Rattle.rules.specs.Records.{member}
 use Rattle.rules.specs.Request.{Request, size, conflicts_any, is_blocked}
 use Rattle.rules.specs.Prices.{Prices}

@@ -1,8 +1,7 @@
 -- Theorems of the law book: what a conflict is, record by record, that the counters and the maps tell it, and the state that a
 -- Begin gives.
-use Rattle.std.specs.Prelude.{ℕ, ◌<◌, ◌≡◌, Bool, true, ◌&&◌, ◌||◌, not, List, [], ◌∷◌, ◌++◌, ◌↔◌, ltb, length, get_or}
+use Rattle.std.specs.Prelude.{ℕ, ◌<◌, ◌≡◌, Bool, true, ◌&&◌, ◌||◌, not, List, [], ◌∷◌, ◌++◌, ◌↔◌, ltb, length, get_or, if◌then◌else◌}
 use Rattle.rules.specs.declared.Mode.TheVariants.{Free, Waiting, Blocked}
-use Rattle.rules.specs.Lists.{if◌then◌else◌}
 use Rattle.rules.specs.Records.{member, Stored}
 use Rattle.rules.specs.Request.{Request, nobody, requested, reduced, conflict, conflicts_any, admitted}
 use Rattle.rules.specs.Counters.{cx, cs, figure2, alone}
