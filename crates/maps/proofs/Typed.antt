@@ -1,7 +1,6 @@
 -- What the type of a map alone says of it: four words, each below 2 ^ 64.
 use Prim.Native.Nat.{ℕ, zero, suc, ◌^◌, ◌<◌}
-use mathlib.Core.Path.{◌≡◌, refl, ap, subst}
-use mathlib.Core.List.{List, [], ◌∷◌, map}
+use mathlib.Core.List.{List, [], ◌∷◌}
 use lib.Dec.{lit<}
 use lib.ListN.{get_or}
 use mir.Syntax.{w64}
@@ -18,13 +17,5 @@ each_below (x ∷ xs) [] p k = absurd p
 each_below (x ∷ xs) (u ∷ us) p zero = p.0.1
 each_below (x ∷ xs) (u ∷ us) p (suc k) = each_below xs us p.1 k
 
-words : (xs : List ℕ) (vs : List Val) → Is (Array (UInt w64) 4) xs vs → Words xs
+pub words : (xs : List ℕ) (vs : List Val) → Is (Array (UInt w64) 4) xs vs → Words xs
 words xs vs p = record { size = p.1.0.1; below = each_below xs p.0 p.1.1 }
-
-map-id : (xs : List ℕ) → map (λ (x : ℕ). x) xs ≡ xs
-map-id [] = refl
-map-id (x ∷ xs) = ap (λ (t : List ℕ). x ∷ t) (map-id xs)
-
--- as a field of a struct, whose list is mapped
-pub field-words : (xs : List ℕ) (vs : List Val) → Is (Array (UInt w64) 4) (map (λ (x : ℕ). x) xs) vs → Words xs
-field-words xs vs p = subst Words (map-id xs) (words (map (λ (x : ℕ). x) xs) vs p)
