@@ -1,27 +1,27 @@
 -- What the type of a state alone says of it: the lengths of its arrays, and that its maps are words.
 use Prim.Native.Nat.{ℕ, zero, suc, ◌<◌}
-use mathlib.Core.Path.{◌≡◌, sym, ◌∙◌}
-use mathlib.Core.List.{List, [], ◌∷◌, map}
+use mathlib.Core.Path.{◌≡◌}
+use mathlib.Core.List.{List, [], ◌∷◌}
 use native.Mathlib.Nat.{not-suc-le-zero, le_of_suc-le-suc}
 use native.Mathlib.Omega.{arith}
-use lib.ListN.{length, get_or, length-map}
+use lib.ListN.{length, get_or}
 use mir.Val.{Val}
 use denote.Array.{each}
 use denote.Shadow.{shadow}
 use denote.Laws.{Is}
-use Rattle.maps.proofs.Typed.{field-words}
+use Rattle.maps.proofs.Typed.{words}
 use Rattle.entry.specs.declared.Entry.{Entry}
 use Rattle.entry.specs.Entry.{blank}
 use Rattle.entry.specs.contracts.Entry as entry
-use Rattle.entry.proofs.Typed.{Lists, entry-lists, field-bytes}
+use Rattle.entry.proofs.Typed.{Lists, entry-lists, bytes}
 use Rattle.manager.specs.declared.State.{State}
 use Rattle.manager.specs.Tight.{Sized}
 use Rattle.manager.specs.contracts.State as state
 
 pub state-slots : (s : State) (vs : List Val) → Is state.the_row s vs → length s.entries ≡ 64
-state-slots s vs p = sym (length-map s.entries _) ∙ p.1.1.1.1.1.1.1.1.0.1.0.1
+state-slots s vs p = p.1.1.1.1.1.1.1.1.0.1.0.1
 
-each-lists : (es : List Entry) (us : List Val) → shadow (each (entry.the_field).row.Denot (entry.the_field).row.own_val (map (entry.the_field).into es) us) → (i : ℕ) → i < length es → Lists (get_or es i blank)
+each-lists : (es : List Entry) (us : List Val) → shadow (each Entry (entry.the_row).own_val es us) → (i : ℕ) → i < length es → Lists (get_or es i blank)
 each-lists [] us p i h = absurd (not-suc-le-zero h)
 each-lists (e ∷ es) [] p i h = absurd p
 each-lists (e ∷ es) (u ∷ us) p zero h = entry-lists e (u ∷ []) p.0
@@ -37,10 +37,10 @@ pub state-sized : (s : State) (vs : List Val) → Is state.the_row s vs → Size
 state-sized s vs p =
     let lists = state-lists s vs p in
     record {
-      writers = (field-bytes 256 s.cx _ p.1.1.0).size;
-      readers = (field-bytes 256 s.cs _ p.1.1.1.0).size;
-      written = field-words s.written _ p.1.1.1.1.0;
-      read = field-words s.read _ p.1.1.1.1.1.0;
+      writers = (bytes 256 s.cx _ p.1.1.0).size;
+      readers = (bytes 256 s.cs _ p.1.1.1.0).size;
+      written = words s.written _ p.1.1.1.1.0;
+      read = words s.read _ p.1.1.1.1.1.0;
       slots = state-slots s vs p;
       reads = λ i lt. (lists i lt).reads.size;
       writes = λ i lt. (lists i lt).writes.size;

@@ -8,48 +8,45 @@ use Rattle.manager.specs.Rows.{early_rows}
 use borrow.Author.Rules.{rules}
 use Rattle.manager.proofs.begin.early.Statement.{statement}
 use Rattle.manager.proofs.begin.early.Tie as tie
-use Rattle.manager.proofs.begin.early.Reads as reads
-use Rattle.manager.proofs.begin.early.Lts as lts
-use Rattle.entry.proofs.too_many.Reads as too-many-reads
 
 -- the tank is not empty
-wet : (c : tie.Else2) → eqb c.before.before.before.before.args.fuel 0 ≡ false
-wet c = ne_eqb _ _ c.if2.false
+wet : (c : tie.Else-fuel-eq0) → eqb c.before.before.before.before.args.fuel 0 ≡ false
+wet c = ne_eqb _ _ c.if-fuel-eq0.false
 
-returns : tie.Need-returns
+returns : tie.Need-returns-then-not-tenant
 unfolding early_rows first_of
-returns c = simp c.if1.true
+returns c = simp c.if-not-tenant.true
 
-returns-2 : tie.Need-returns-2
+returns-2 : tie.Need-returns-then-fuel-eq0
 unfolding early_rows first_of
-returns-2 c = simp (c.before.if1.false, eq-eqb _ _ c.if2.true)
+returns-2 c = simp (c.before.if-not-tenant.false, eq-eqb _ _ c.if-fuel-eq0.true)
 
-too-many-requires : tie.Need-too-many-requires
+too-many-requires : tie.Need-too_many-requires
 too-many-requires c κs = search rules
 
-returns-3 : tie.Need-returns-3
+returns-3 : tie.Need-returns-then-too_many
 unfolding early_rows first_of
-returns-3 c = let p = c.before.before in simp (p.before.if1.false, wet p, sym c.before.too_many.ensures ∙ c.if3.true)
+returns-3 c = let p = c.before.before in simp (p.before.if-not-tenant.false, wet p, sym c.before.too_many.ensures ∙ c.if-too_many.true)
 
-too-many-requires-2 : tie.Need-too-many-requires-2
+too-many-requires-2 : tie.Need-too_many-requires-2
 too-many-requires-2 c κs = search rules
 
-returns-4 : tie.Need-returns-4
+returns-4 : tie.Need-returns-then-too_many-2
 unfolding early_rows first_of
 returns-4 c =
     let n = c.before.before in
     let p = n.before.before in
-    simp (p.before.if1.false, wet p, sym n.before.too_many.ensures ∙ n.if3.false, sym c.before.too-many2.ensures ∙ c.if4.true)
+    simp (p.before.if-not-tenant.false, wet p, sym n.before.too_many.ensures ∙ n.if-too_many.false, sym c.before.too_many-2.ensures ∙ c.if-too_many-2.true)
 
-returns-5 : tie.Need-returns-5
+returns-5 : tie.Need-returns
 unfolding early_rows first_of
 returns-5 c =
     let n = c.before.before in
     let p = n.before.before in
-    simp (p.before.if1.false, wet p, sym n.before.too_many.ensures ∙ n.if3.false, sym c.before.too-many2.ensures ∙ c.if4.false)
+    simp (p.before.if-not-tenant.false, wet p, sym n.before.too_many.ensures ∙ n.if-too_many.false, sym c.before.too_many-2.ensures ∙ c.if-too_many-2.false)
 
-pub early-spec : {M : Type 1} → statement M
-early-spec =
+pub early_spec : {M : Type 1} → statement M
+early_spec =
     tie.close
     (tie.spec
     returns

@@ -3,7 +3,6 @@ use Prim.Native.Nat.{◌≤◌, ◌<◌, ◌-◌, ◌+◌}
 use native.Mathlib.Omega.{arith}
 use mathlib.Core.Path.{◌≡◌, sym, ap, ◌∙◌}
 use mathlib.Core.Bool.{false}
-use mathlib.Core.Logic.{⊎_elim}
 use lib.Dec.{leb}
 use lib.ListN.{length, drop}
 use borrow.Author.Tests.{eq-eqb, ne_eqb, leb-false}
@@ -27,177 +26,174 @@ use Rattle.manager.proofs.Leaving.{cancel-did}
 use borrow.Author.Rules.{rules}
 use Rattle.manager.proofs.cancel.cancel.Statement.{statement}
 use Rattle.manager.proofs.cancel.cancel.Tie as tie
-use Rattle.manager.proofs.cancel.cancel.Reads as reads
-use Rattle.manager.proofs.cancel.cancel.Lts as lts
-use Rattle.entry.proofs.is_blocked.Reads as is-blocked-reads
-use Rattle.meter.proofs.charged.Reads as charged-reads
-use Rattle.manager.proofs.cancel.refusal.Reads as refusal-reads
-use Rattle.manager.proofs.places.released.Reads as released-reads
-use Rattle.manager.proofs.refusal.billed.Reads as billed-reads
-use Rattle.manager.proofs.tenants.is_tenant.Reads as is-tenant-reads
-use Rattle.manager.proofs.meters.meter_of.Reads as meter-of-reads
+use Rattle.manager.proofs.cancel.cancel.Lts.{then-at-count, else-at-count, else-loop-at-test, then-loop-at-test+then-n-at+then-n-at-2, else-n-at-via-then-n-at+else-n-at-2, else-n-at-via-else-n-at}
 
-abbrev invariant-loop : tie.invariant-loop
+abbrev invariant-loop : tie.invariant-loop-at
 invariant-loop who serial s count at₀ at =
     (at ≤ count) × (stands_at who serial (view s).queue ≡ at + stands_at who serial (drop at (view s).queue))
 
-abbrev decreases-loop : tie.decreases-loop
+abbrev decreases-loop : tie.decreases-loop-at
 decreases-loop who serial s count at₀ at = count - at
 
 slots : (c : tie.Start invariant-loop decreases-loop) → Slotted c.args.s
-slots c = slotted c.args.s _ c.well-formed.0 c.requires.tied
+slots c = slotted c.args.s _ c.well_formed.0 c.requires.tied
 
 -- where the loop was left, the entry stands, or none is left
-stood : (c : tie.Left-loop invariant-loop decreases-loop) → let s = c.before.before.args in c.before.loop.at ≡ stands_at s.who s.serial (view s.s).queue
+stood : (c : tie.Left-loop-at invariant-loop decreases-loop) → let s = c.before.before.args in c.before.loop-at.at ≡ stands_at s.who s.serial (view s.s).queue
 stood c =
     let a = c.before in
     let s = a.before in
-    ⊎_elim
-    (λ w. omega (arith, a.loop.invariant.1, stands-end (slots s).slots w.left s.args.who s.args.serial))
-    (λ w.
-    let step = stands-step (slots s).slots w.0.taken s.args.who s.args.serial in
-    omega (arith, a.loop.invariant.1, simp (eq-eqb _ _ w.1.taken, w.2.taken) at step))
-    c.loop-test.branch
+    elim c.loop-at-test.branch [
+      | else-loop-at-test w ↦ omega (arith, a.loop-at.invariant.1, stands-end (slots s).slots w.loop-at-test.false s.args.who s.args.serial)
+      | then-loop-at-test+then-n-at+then-n-at-2 w ↦
+          let step = stands-step (slots s).slots w.loop-at-test.true s.args.who s.args.serial in
+          omega (arith, a.loop-at.invariant.1, simp (eq-eqb _ _ w.if-n-at.true, eq-eqb _ _ w.if-n-at-2.true) at step)
+    ]
 
 -- from the meter that was read back to the loop, and to the start
-abbrev looked-up : tie.After-meter-of invariant-loop decreases-loop → tie.Left-loop invariant-loop decreases-loop
+abbrev looked-up : tie.After-meter_of-m invariant-loop decreases-loop → tie.Left-loop-at invariant-loop decreases-loop
 looked-up c = c.before.before.before
 
-abbrev begun : tie.After-refusal invariant-loop decreases-loop → tie.Start invariant-loop decreases-loop
+abbrev begun : tie.After-refusal-number invariant-loop decreases-loop → tie.Start invariant-loop decreases-loop
 begun c = (looked-up c.before.before).before.before
 
-blocked-is : (c : tie.Joined3 invariant-loop decreases-loop) → let a = (looked-up c.before).before in let s = a.before.args in leb s.s.count a.loop.at ≡ false → c.if3.blocked ≡ is_blocked (entry_of s.who s.serial (view s.s).queue).mode
+blocked-is : (c : tie.Joined-at-count invariant-loop decreases-loop) → let a = (looked-up c.before).before in let s = a.before.args in leb s.s.count a.loop-at.at ≡ false → c.if-at-count.blocked ≡ is_blocked (entry_of s.who s.serial (view s.s).queue).mode
 blocked-is c present =
     let out = looked-up c.before in
     let a = out.before in
     let s = a.before in
-    ⊎_elim
-    (λ w. w.3 ∙ w.2.ensures ∙ ap (λ (e : Request). is_blocked e.mode) (entry-is (slots s).slots s.args.who s.args.serial (stood out) w.0.taken))
-    (λ w. absurd (omega (arith, leb-false s.args.s.count a.loop.at present, w.0.left)))
-    c.if3.branch
+    elim c.if-at-count.branch [
+      | then-at-count w ↦ w.blocked-is ∙ w.is_blocked-blocked.ensures ∙ ap (λ (e : Request). is_blocked e.mode) (entry-is (slots s).slots s.args.who s.args.serial (stood out) w.if-at-count.true)
+      | else-at-count w ↦ absurd (omega (arith, leb-false s.args.s.count a.loop-at.at present, w.if-at-count.false))
+    ]
 
-number_is : (c : tie.After-refusal invariant-loop decreases-loop) → let s = (begun c).args in c.refusal.result ≡ first_of (cancel_rows (view s.s) s.who s.serial)
+number_is : (c : tie.After-refusal-number invariant-loop decreases-loop) → let s = (begun c).args in c.refusal-number.result ≡ first_of (cancel_rows (view s.s) s.who s.serial)
 number_is c =
     let j = c.before in
     let m = j.before in
     let s = begun c in
-    let own = own-meter s.args.s s.args.who _ m.meter-of.ensures in
-    c.refusal.ensures ∙ cancel-rows (view s.args.s) _ _ _ _ _ _ m.before.before.is-tenant.ensures (λ one. ap (λ (a : LawMeter). a.fuel) (own one)) (absent-is (slots s).slots _ _ _ (stood (looked-up m))) (blocked-is j)
+    let own = own-meter s.args.s s.args.who _ m.meter_of-m.ensures in
+    c.refusal-number.ensures ∙ cancel-rows (view s.args.s) _ _ _ _ _ _ m.before.before.is_tenant-tenant.ensures (λ one. ap (λ (a : LawMeter). a.fuel) (own one)) (absent-is (slots s).slots _ _ _ (stood (looked-up m))) (blocked-is j)
 
 outsider : (s : tie.Start invariant-loop decreases-loop) → is_tenant s.args.who ≡ false → first_of (cancel_rows (view s.args.s) s.args.who s.args.serial) ≡ 1
 unfolding cancel_rows
 outsider s outside = stranger s.args.who _ outside
 
 -- a call that is not refused has found its entry
-there : (c : tie.After-refusal invariant-loop decreases-loop) → c.refusal.result ≡ 0 → (looked-up c.before.before).before.loop.at < length (view (begun c).args.s).queue
+there : (c : tie.After-refusal-number invariant-loop decreases-loop) → c.refusal-number.result ≡ 0 → (looked-up c.before.before).before.loop-at.at < length (view (begun c).args.s).queue
 there c z =
     let s = (begun c).args in
     let t = view s.s in
     omega (arith, stood (looked-up c.before.before), here s.who s.serial t.queue (cancel-passes t s.who s.serial (sym (number_is c) ∙ z)).there)
 
-loop-holds : tie.Need-loop-init invariant-loop decreases-loop
+loop-holds : tie.Need-loop-at-init invariant-loop decreases-loop
 loop-holds c = search rules
 
-mul-if1 : tie.Need-overflow-mul-if1 invariant-loop decreases-loop
+mul-if1 : tie.Need-offset_bounds-n-at invariant-loop decreases-loop
 mul-if1 c = search rules
 
-element-copy-out-if1 : tie.Need-element-copy-out-if1 invariant-loop decreases-loop
+element-copy-out-if1 : tie.Need-bounds-n-at invariant-loop decreases-loop
 element-copy-out-if1 c = search rules
 
-mul-if2 : tie.Need-overflow-mul-if2 invariant-loop decreases-loop
+mul-if2 : tie.Need-offset_bounds-n-at-then-n-at invariant-loop decreases-loop
 mul-if2 c = search rules
 
-element-copy-out-if2 : tie.Need-element-copy-out-if2 invariant-loop decreases-loop
+element-copy-out-if2 : tie.Need-bounds-n-at-then-n-at invariant-loop decreases-loop
 element-copy-out-if2 c = search rules
 
-add_at : tie.Need-overflow-add-at invariant-loop decreases-loop
+add_at : tie.Need-overflow_add-at invariant-loop decreases-loop
 add_at c = search rules
 
-loop-less : tie.Need-loop-smaller invariant-loop decreases-loop
+loop-less : tie.Need-loop-at-smaller invariant-loop decreases-loop
 loop-less c = search rules
 
-loop-again : tie.Need-loop-preserved invariant-loop decreases-loop
+loop-again : tie.Need-loop-at-preserved invariant-loop decreases-loop
 loop-again c =
     let a = c.before.before in
     let s = a.before in
-    let step = stands-step (slots s).slots c.before.loop-test.true s.args.who s.args.serial in
-    (search rules, ⊎_elim (λ w. omega (arith, a.loop.invariant.1, simp (eq-eqb _ _ w.0.taken, w.1.left) at step)) (λ w. omega (arith, a.loop.invariant.1, simp (ne_eqb _ _ w.left) at step)) c.if1.branch)
+    let step = stands-step (slots s).slots c.before.loop-at-test.true s.args.who s.args.serial in (
+      search rules,
+      elim c.else-n-at.branch [
+        | else-n-at-via-then-n-at+else-n-at-2 w ↦ omega (arith, a.loop-at.invariant.1, simp (eq-eqb _ _ w.if-n-at.true, ne_eqb _ _ w.if-n-at-2.false) at step)
+        | else-n-at-via-else-n-at w ↦ omega (arith, a.loop-at.invariant.1, simp (ne_eqb _ _ w.if-n-at.false) at step)
+      ],
+    )
 
-is-tenant-requires : tie.Need-is-tenant-requires invariant-loop decreases-loop
+is-tenant-requires : tie.Need-is_tenant-tenant-requires invariant-loop decreases-loop
 is-tenant-requires c κs = search rules
 
-meter-of-requires : tie.Need-meter-of-requires invariant-loop decreases-loop
+meter-of-requires : tie.Need-meter_of-m-requires invariant-loop decreases-loop
 meter-of-requires c κs = search rules
 
-mul-e : tie.Need-overflow-mul-e invariant-loop decreases-loop
+mul-e : tie.Need-offset_bounds-n-at-then-at-count invariant-loop decreases-loop
 mul-e c = search rules
 
-element-copy-out-e : tie.Need-element-copy-out-e invariant-loop decreases-loop
+element-copy-out-e : tie.Need-bounds-n-at-then-at-count invariant-loop decreases-loop
 element-copy-out-e c = search rules
 
-is-blocked-requires : tie.Need-is-blocked-requires invariant-loop decreases-loop
+is-blocked-requires : tie.Need-is_blocked-blocked-requires invariant-loop decreases-loop
 is-blocked-requires c κs = search rules
 
-refusal-requires : tie.Need-refusal-requires invariant-loop decreases-loop
+refusal-requires : tie.Need-refusal-number-requires invariant-loop decreases-loop
 refusal-requires c κs = search rules
 
-billed-requires : tie.Need-billed-requires invariant-loop decreases-loop
+billed-requires : tie.Need-billed-bill-requires invariant-loop decreases-loop
 billed-requires c κs = search rules
 
-refused : (c : tie.After-billed invariant-loop decreases-loop) → let s = (begun c.before.before).args in Did (billing s.s c.billed.result) (cancel_of clause9 (view s.s) s.who s.serial)
+refused : (c : tie.After-billed-bill invariant-loop decreases-loop) → let s = (begun c.before.before).args in Did (billing s.s c.billed-bill.result) (cancel_of clause9 (view s.s) s.who s.serial)
 unfolding cancel_of
 refused c =
     let n = c.before.before in
     let s = begun n in
-    rw (← (number_is n)) (tenant-refused _ _ _ _ _ _ c.before.if4.true (billed-did s.pre s.args.who n.refusal.result (λ outside. number_is n ∙ outsider s outside) c.billed.ensures))
+    rw (← (number_is n)) (tenant-refused _ _ _ _ _ _ c.before.if-number-ne0.true (billed-did s.requires s.args.who n.refusal-number.result (λ outside. number_is n ∙ outsider s outside) c.billed-bill.ensures))
 
-returns : tie.Need-returns invariant-loop decreases-loop
+returns : tie.Need-returns-then-number-ne0 invariant-loop decreases-loop
 returns c = refused c.before.before
 
 -- ---- the deed
-abbrev unrefused : tie.After-charged invariant-loop decreases-loop → tie.After-refusal invariant-loop decreases-loop
+abbrev unrefused : tie.After-charged-paid invariant-loop decreases-loop → tie.After-refusal-number invariant-loop decreases-loop
 unrefused c = c.before.before
 
-may : (c : tie.Else4 invariant-loop decreases-loop) → let s = (begun c.before).args in Cancelable (view s.s) s.who s.serial
-may c = let s = (begun c.before).args in cancel-passes (view s.s) s.who s.serial (sym (number_is c.before) ∙ c.if4.false)
+may : (c : tie.Else-number-ne0 invariant-loop decreases-loop) → let s = (begun c.before).args in Cancelable (view s.s) s.who s.serial
+may c = let s = (begun c.before).args in cancel-passes (view s.s) s.who s.serial (sym (number_is c.before) ∙ c.if-number-ne0.false)
 
-range : (c : tie.Else4 invariant-loop decreases-loop) → (1 ≤ (begun c.before).args.who) × ((begun c.before).args.who ≤ 16)
+range : (c : tie.Else-number-ne0 invariant-loop decreases-loop) → (1 ≤ (begun c.before).args.who) × ((begun c.before).args.who ≤ 16)
 range c = tenant-range (begun c.before).args.who (may c).tenant
 
 -- the meter that was read is the tenant's
-own : (c : tie.Else4 invariant-loop decreases-loop) → let s = (begun c.before).args in meter_view c.before.before.before.meter-of.result ≡ meter_of (view s.s) s.who
-own c = let s = (begun c.before).args in own-meter s.s s.who _ c.before.before.before.meter-of.ensures (may c).tenant
+own : (c : tie.Else-number-ne0 invariant-loop decreases-loop) → let s = (begun c.before).args in meter_view c.before.before.before.meter_of-m.result ≡ meter_of (view s.s) s.who
+own c = let s = (begun c.before).args in own-meter s.s s.who _ c.before.before.before.meter_of-m.ensures (may c).tenant
 
-charged-requires : tie.Need-charged-requires invariant-loop decreases-loop
+charged-requires : tie.Need-charged-paid-requires invariant-loop decreases-loop
 charged-requires c κs = omega (arith, ap (λ (a : LawMeter). a.fuel) (own c), (may c).fuelled)
 
-sub-k : tie.Need-overflow-sub-k invariant-loop decreases-loop
+sub-k : tie.Need-overflow_sub-k invariant-loop decreases-loop
 sub-k c = (range c.before).0
 
-cast-k : tie.Need-overflow-cast-k invariant-loop decreases-loop
+cast-k : tie.Need-overflow_cast-k invariant-loop decreases-loop
 cast-k c = search rules
 
-mul-paid : tie.Need-overflow-mul-paid invariant-loop decreases-loop
+mul-paid : tie.Need-offset_bounds-n-k invariant-loop decreases-loop
 mul-paid c = omega (arith, (range c.before).1)
 
-element-set-from-paid : tie.Need-element-set-from-paid invariant-loop decreases-loop
+element-set-from-paid : tie.Need-bounds-n-k invariant-loop decreases-loop
 element-set-from-paid c = omega (arith, (range c.before).1)
 
 released-requires : tie.Need-released-requires invariant-loop decreases-loop
 released-requires c κs =
     let s = begun (unrefused c) in
-    let inside = there (unrefused c) c.before.if4.false in
-    ((meter-becomes s.pre.tied _ _ _).tied, (inside, (each_at s.pre.table.entries _ nobody inside).lists))
+    let inside = there (unrefused c) c.before.if-number-ne0.false in
+    ((meter-becomes s.requires.tied _ _ _).tied, (inside, (each_at s.requires.table.entries _ nobody inside).lists))
 
-returns-2 : tie.Need-returns-2 invariant-loop decreases-loop
+returns-2 : tie.Need-returns invariant-loop decreases-loop
 returns-2 c =
     let paid = c.before in
     let n = unrefused paid in
     let s = begun n in
-    cancel-did s.pre s.args.who s.args.serial (stood (looked-up n.before.before)) (sym (number_is n) ∙ paid.before.if4.false) _ (paid.charged.ensures ∙ ap (λ (a : LawMeter). spent a 1) (own paid.before)) c.released.ensures
+    cancel-did s.requires s.args.who s.args.serial (stood (looked-up n.before.before)) (sym (number_is n) ∙ paid.before.if-number-ne0.false) _ (paid.charged-paid.ensures ∙ ap (λ (a : LawMeter). spent a 1) (own paid.before)) c.released.ensures
 
-pub cancel-spec : {M : Type 1} → statement M
-cancel-spec =
+pub cancel_spec : {M : Type 1} → statement M
+cancel_spec =
     tie.close
     (tie.spec
     invariant-loop

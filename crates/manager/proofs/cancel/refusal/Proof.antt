@@ -4,28 +4,26 @@ use Rattle.rules.specs.Refusals.{first_of}
 use Rattle.manager.specs.Rows.{cancel_by}
 use Rattle.manager.proofs.cancel.refusal.Statement.{statement}
 use Rattle.manager.proofs.cancel.refusal.Tie as tie
-use Rattle.manager.proofs.cancel.refusal.Reads as reads
-use Rattle.manager.proofs.cancel.refusal.Lts as lts
 
-returns : tie.Need-returns
+returns : tie.Need-returns-then-not-tenant
 unfolding cancel_by first_of
-returns c = simp c.if1.true
+returns c = simp c.if-not-tenant.true
 
-returns-2 : tie.Need-returns-2
+returns-2 : tie.Need-returns-then-fuel-eq0
 unfolding cancel_by first_of
-returns-2 c = simp (c.before.if1.false, eq-eqb _ _ c.if2.true)
+returns-2 c = simp (c.before.if-not-tenant.false, eq-eqb _ _ c.if-fuel-eq0.true)
 
-returns-3 : tie.Need-returns-3
+returns-3 : tie.Need-returns-then-absent
 unfolding cancel_by first_of
-returns-3 c = let wet = c.before in simp (wet.before.if1.false, ne_eqb _ _ wet.if2.false, c.if3.true)
+returns-3 c = let wet = c.before in simp (wet.before.if-not-tenant.false, ne_eqb _ _ wet.if-fuel-eq0.false, c.if-absent.true)
 
-returns-4 : tie.Need-returns-4
+returns-4 : tie.Need-returns-then-not-blocked
 unfolding cancel_by first_of
-returns-4 c = let there = c.before in let wet = there.before in simp (wet.before.if1.false, ne_eqb _ _ wet.if2.false, there.if3.false, c.if4.true)
+returns-4 c = let there = c.before in let wet = there.before in simp (wet.before.if-not-tenant.false, ne_eqb _ _ wet.if-fuel-eq0.false, there.if-absent.false, c.if-not-blocked.true)
 
-returns-5 : tie.Need-returns-5
+returns-5 : tie.Need-returns
 unfolding cancel_by first_of
-returns-5 c = let there = c.before in let wet = there.before in simp (wet.before.if1.false, ne_eqb _ _ wet.if2.false, there.if3.false, c.if4.false)
+returns-5 c = let there = c.before in let wet = there.before in simp (wet.before.if-not-tenant.false, ne_eqb _ _ wet.if-fuel-eq0.false, there.if-absent.false, c.if-not-blocked.false)
 
-pub refusal-spec : {M : Type 1} → statement M
-refusal-spec = tie.close (tie.spec returns returns-2 returns-3 returns-4 returns-5)
+pub refusal_spec : {M : Type 1} → statement M
+refusal_spec = tie.close (tie.spec returns returns-2 returns-3 returns-4 returns-5)

@@ -4,24 +4,22 @@ use Rattle.rules.specs.Refusals.{first_of}
 use Rattle.manager.specs.Rows.{deliver_by}
 use Rattle.manager.proofs.deliver.refusal.Statement.{statement}
 use Rattle.manager.proofs.deliver.refusal.Tie as tie
-use Rattle.manager.proofs.deliver.refusal.Reads as reads
-use Rattle.manager.proofs.deliver.refusal.Lts as lts
 
-returns : tie.Need-returns
+returns : tie.Need-returns-then-not-tenant
 unfolding deliver_by first_of
-returns c = simp c.if1.true
+returns c = simp c.if-not-tenant.true
 
-returns-2 : tie.Need-returns-2
+returns-2 : tie.Need-returns-then-absent
 unfolding deliver_by first_of
-returns-2 c = simp (c.before.if1.false, c.if2.true)
+returns-2 c = simp (c.before.if-not-tenant.false, c.if-absent.true)
 
-returns-3 : tie.Need-returns-3
+returns-3 : tie.Need-returns-then-due-eq0
 unfolding deliver_by first_of
-returns-3 c = simp (c.before.before.if1.false, c.before.if2.false, eq-eqb _ _ c.if3.true)
+returns-3 c = simp (c.before.before.if-not-tenant.false, c.before.if-absent.false, eq-eqb _ _ c.if-due-eq0.true)
 
-returns-4 : tie.Need-returns-4
+returns-4 : tie.Need-returns
 unfolding deliver_by first_of
-returns-4 c = simp (c.before.before.if1.false, c.before.if2.false, ne_eqb _ _ c.if3.false)
+returns-4 c = simp (c.before.before.if-not-tenant.false, c.before.if-absent.false, ne_eqb _ _ c.if-due-eq0.false)
 
-pub refusal-spec : {M : Type 1} → statement M
-refusal-spec = tie.close (tie.spec returns returns-2 returns-3 returns-4)
+pub refusal_spec : {M : Type 1} → statement M
+refusal_spec = tie.close (tie.spec returns returns-2 returns-3 returns-4)

@@ -4,21 +4,17 @@ use Rattle.manager.proofs.Marking.{held-told}
 use borrow.Author.Rules.{rules}
 use Rattle.manager.proofs.held.held.Statement.{statement}
 use Rattle.manager.proofs.held.held.Tie as tie
-use Rattle.manager.proofs.held.held.Reads as reads
-use Rattle.manager.proofs.held.held.Lts as lts
-use Rattle.maps.proofs.join.Reads as join-reads
-use Rattle.maps.proofs.ones.Reads as ones-reads
 
 join-requires : tie.Need-join-requires
-join-requires c κs = let s = c.before.before.before.before.before in (state-sized s.args.s _ s.well-formed.0).written.size
+join-requires c κs = let s = c.before.before.before.before.before in (state-sized s.args.s _ s.well_formed.0).written.size
 
-ones-requires : tie.Need-ones-requires
+ones-requires : tie.Need-ones-w-requires
 ones-requires c κs = search rules
 
-ones-requires-2 : tie.Need-ones-requires-2
+ones-requires-2 : tie.Need-ones-r-requires
 ones-requires-2 c κs = search rules
 
-ones-requires-3 : tie.Need-ones-requires-3
+ones-requires-3 : tie.Need-ones-e-requires
 ones-requires-3 c κs = search rules
 
 returns : tie.Need-returns
@@ -26,7 +22,7 @@ returns c =
     let second = c.before in
     let first = second.before in
     let both = first.before in
-    held-told both.before.before.before.before.before.before.requires.tied both.join.ensures first.ones.ensures second.ones2.ensures c.ones3.ensures
+    held-told both.before.before.before.before.before.before.requires.tied both.join.ensures first.ones-w.ensures second.ones-r.ensures c.ones-e.ensures
 
 pub held_spec : {M : Type 1} → statement M
 held_spec =

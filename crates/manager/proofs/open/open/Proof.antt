@@ -1,43 +1,38 @@
 -- Refused, with every share 0, or a fresh state of the shares.
 use borrow.Author.Rules.{rules}
 use mathlib.Core.Path.{sym, ◌∙◌}
-use Rattle.rules.specs.Table.{fresh}
 use Rattle.rules.specs.Calls.{open_of}
 use Rattle.rules.proofs.Refusals.{open-passes}
 use Rattle.rules.proofs.Sound.{fresh-sound, shut-sound}
 use Rattle.manager.proofs.Done.{host-refused, host-done}
 use Rattle.manager.proofs.open.open.Statement.{statement}
 use Rattle.manager.proofs.open.open.Tie as tie
-use Rattle.manager.proofs.open.open.Reads as reads
-use Rattle.manager.proofs.open.open.Lts as lts
-use Rattle.manager.proofs.open.fresh.Reads as fresh-reads
-use Rattle.manager.proofs.open.refusal.Reads as refusal-reads
 
-refusal-requires : tie.Need-refusal-requires
+refusal-requires : tie.Need-refusal-number-requires
 refusal-requires c κs = search rules
 
-slice-aggregate-fresh : tie.Need-slice-aggregate-fresh
+slice-aggregate-fresh : tie.Need-slice_bounds-fresh-end
 slice-aggregate-fresh c = search rules
 
 fresh-requires : tie.Need-fresh-requires
 fresh-requires c κs = search rules
 
-returns : tie.Need-returns
+returns : tie.Need-returns-then-number-ne0
 unfolding open_of
 returns c =
     let one = c.before.before in
-    rw (← one.before.refusal.ensures) (host-refused _ _ _ _ one.if1.true shut-sound c.fresh.ensures.0 c.fresh.ensures.1.0 c.fresh.ensures.1.1)
+    rw (← one.before.refusal-number.ensures) (host-refused _ _ _ _ one.if-number-ne0.true shut-sound c.fresh.ensures.0 c.fresh.ensures.1.0 c.fresh.ensures.1.1)
 
 fresh-requires-2 : tie.Need-fresh-requires-2
-fresh-requires-2 c κs = (open-passes _ (sym c.before.refusal.ensures ∙ c.if1.false)).0
+fresh-requires-2 c κs = (open-passes _ (sym c.before.refusal-number.ensures ∙ c.if-number-ne0.false)).0
 
-returns-2 : tie.Need-returns-2
+returns-2 : tie.Need-returns
 unfolding open_of
 returns-2 c =
     let one = c.before in
-    let none = sym one.before.refusal.ensures ∙ one.if1.false in
+    let none = sym one.before.refusal-number.ensures ∙ one.if-number-ne0.false in
     let a = open-passes _ none in
-    host-done _ _ none (fresh-sound _ a.0 a.1) c.fresh2.ensures.0 c.fresh2.ensures.1.0 c.fresh2.ensures.1.1
+    host-done _ _ none (fresh-sound _ a.0 a.1) c.fresh-2.ensures.0 c.fresh-2.ensures.1.0 c.fresh-2.ensures.1.1
 
 pub open_spec : {M : Type 1} → statement M
 open_spec =

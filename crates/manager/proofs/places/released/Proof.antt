@@ -17,20 +17,15 @@ use Rattle.manager.proofs.Typed.{state-sized}
 use Rattle.manager.proofs.Slots.{Slotted, slotted, used, below, own, own-lists, Framed, frame-more}
 use Rattle.manager.proofs.places.released.Statement.{statement}
 use Rattle.manager.proofs.places.released.Tie as tie
-use Rattle.manager.proofs.places.released.Reads as reads
-use Rattle.manager.proofs.places.released.Lts as lts
-use Rattle.entry.proofs.empty.Reads as empty-reads
-use Rattle.entry.proofs.few.Reads as few-reads
-use Rattle.counters.proofs.lower.Reads as lower-reads
 
-abbrev invariant-loop : tie.invariant-loop
+abbrev invariant-loop : tie.invariant-loop-j
 invariant-loop at burnt n₀ nr nw last j₀ n j = (at ≤ j) × (j ≤ last) × Shifted at j n₀.entries n.entries × Framed n₀ n
 
-abbrev decreases-loop : tie.decreases-loop
+abbrev decreases-loop : tie.decreases-loop-j
 decreases-loop at burnt n₀ nr nw last j₀ n j = last - j
 
 slots : (c : tie.Start invariant-loop decreases-loop) → Slotted c.args.s
-slots c = slotted c.args.s _ c.well-formed.0 c.requires.0
+slots c = slotted c.args.s _ c.well_formed.0 c.requires.0
 
 -- the place holds an entry with lists in order
 there : (c : tie.Start invariant-loop decreases-loop) → c.args.at < length (view c.args.s).queue
@@ -40,95 +35,95 @@ formed : (c : tie.Start invariant-loop decreases-loop) → let e = get_or (view 
 formed c = c.requires.1.1
 
 -- the records that are counted are the entry's
-read-list : (c : tie.After-few invariant-loop decreases-loop) → let s = c.before.before.args in take c.few.result (get_or s.s.entries s.at blank).reads ≡ (get_or (view s.s).queue s.at nobody).reads
+read-list : (c : tie.After-few-nr invariant-loop decreases-loop) → let s = c.before.before.args in take c.few-nr.result (get_or s.s.entries s.at blank).reads ≡ (get_or (view s.s).queue s.at nobody).reads
 read-list c =
     let one = c.before.before in
-    reads-are (own (slots one) (there one)) (own-lists (slots one) (there one)) c.few.result c.few.ensures
+    reads-are (own (slots one) (there one)) (own-lists (slots one) (there one)) c.few-nr.result c.few-nr.ensures
 
-write-list : (c : tie.After-few2 invariant-loop decreases-loop) → let s = c.before.before.before.args in take c.few2.result (get_or s.s.entries s.at blank).writes ≡ (get_or (view s.s).queue s.at nobody).writes
+write-list : (c : tie.After-few-nw invariant-loop decreases-loop) → let s = c.before.before.before.args in take c.few-nw.result (get_or s.s.entries s.at blank).writes ≡ (get_or (view s.s).queue s.at nobody).writes
 write-list c =
     let one = c.before.before.before in
-    writes_are (own (slots one) (there one)) (own-lists (slots one) (there one)) c.few2.result c.few2.ensures
+    writes_are (own (slots one) (there one)) (own-lists (slots one) (there one)) c.few-nw.result c.few-nw.ensures
 
 -- from the lowered counters back to the lists' lengths, and to the start
-abbrev lowered_by : tie.After-lower invariant-loop decreases-loop → tie.After-few2 invariant-loop decreases-loop
+abbrev lowered_by : tie.After-lower invariant-loop decreases-loop → tie.After-few-nw invariant-loop decreases-loop
 lowered_by c = c.before.before.before.before.before.before.before
 
-abbrev first-lowered : tie.After-lower2 invariant-loop decreases-loop → tie.After-lower invariant-loop decreases-loop
+abbrev first-lowered : tie.After-lower-2 invariant-loop decreases-loop → tie.After-lower invariant-loop decreases-loop
 first-lowered c = c.before.before.before
 
-abbrev begun : tie.After-lower2 invariant-loop decreases-loop → tie.Start invariant-loop decreases-loop
+abbrev begun : tie.After-lower-2 invariant-loop decreases-loop → tie.Start invariant-loop decreases-loop
 begun c = (lowered_by (first-lowered c)).before.before.before
 
 sized : (c : tie.Start invariant-loop decreases-loop) → Sized c.args.s
-sized c = state-sized c.args.s _ c.well-formed.0
+sized c = state-sized c.args.s _ c.well_formed.0
 
-mul-e : tie.Need-overflow-mul-e invariant-loop decreases-loop
+mul-e : tie.Need-offset_bounds-n-at invariant-loop decreases-loop
 mul-e c = omega (arith, below (slots c) (there c))
 
-element-copy-out-e : tie.Need-element-copy-out-e invariant-loop decreases-loop
+element-copy-out-e : tie.Need-bounds-n-at invariant-loop decreases-loop
 element-copy-out-e c = below (slots c) (there c)
 
-few-requires : tie.Need-few-requires invariant-loop decreases-loop
+few-requires : tie.Need-few-nr-requires invariant-loop decreases-loop
 few-requires c κs = search rules
 
-few-requires-2 : tie.Need-few-requires-2 invariant-loop decreases-loop
+few-requires-2 : tie.Need-few-nw-requires invariant-loop decreases-loop
 few-requires-2 c κs = search rules
 
 lower-requires : tie.Need-lower-requires invariant-loop decreases-loop
 lower-requires c κs =
     let two = c.before.before.before.before.before.before in
     let one = two.before.before.before in
-    (omega (arith, two.few2.ensures), (rw (write-list two) (writes-stocked one.requires.0 one.args.at (there one) (formed one)), (one.requires.0.written, (sized one).written.size)))
+    (omega (arith, two.few-nw.ensures), (rw (write-list two) (writes-stocked one.requires.0 one.args.at (there one) (formed one)), (one.requires.0.written, (sized one).written.size)))
 
 lower-requires-2 : tie.Need-lower-requires-2 invariant-loop decreases-loop
 lower-requires-2 c κs =
     let few = (lowered_by c.before.before).before in
     let one = few.before.before in
-    (omega (arith, few.few.ensures), (rw (read-list few) (reads-stocked one.pre.0 one.args.at (there one) (formed one)), (one.pre.0.read, (sized one).read.size)))
+    (omega (arith, few.few-nr.ensures), (rw (read-list few) (reads-stocked one.requires.0 one.args.at (there one) (formed one)), (one.requires.0.read, (sized one).read.size)))
 
-sub-last : tie.Need-overflow-sub-last invariant-loop decreases-loop
+sub-last : tie.Need-overflow_sub-last invariant-loop decreases-loop
 sub-last c = let one = begun c in omega (arith, used (slots one) (there one))
 
-loop-holds : tie.Need-loop-init invariant-loop decreases-loop
+loop-holds : tie.Need-loop-j-init invariant-loop decreases-loop
 loop-holds c = let one = begun c in (omega arith, omega (arith, used (slots one) (there one)), shift_none _ _, record { same = refl })
 
-add-f : tie.Need-overflow-add-f invariant-loop decreases-loop
+add-f : tie.Need-overflow_add-f invariant-loop decreases-loop
 add-f c = search rules
 
-mul-f : tie.Need-overflow-mul-f invariant-loop decreases-loop
-mul-f c = omega (arith, (begun c.before.before).pre.0.neat.within)
+mul-f : tie.Need-offset_bounds-n-j invariant-loop decreases-loop
+mul-f c = omega (arith, (begun c.before.before).requires.0.neat.within)
 
-element-copy-out-f : tie.Need-element-copy-out-f invariant-loop decreases-loop
-element-copy-out-f c = omega (arith, (begun c.before.before).pre.0.neat.within)
+element-copy-out-f : tie.Need-bounds-n-j invariant-loop decreases-loop
+element-copy-out-f c = omega (arith, (begun c.before.before).requires.0.neat.within)
 
-mul-f-2 : tie.Need-overflow-mul-f-2 invariant-loop decreases-loop
-mul-f-2 c = omega (arith, (begun c.before.before.before).pre.0.neat.within)
+mul-f-2 : tie.Need-offset_bounds-n-j-in-loop-j invariant-loop decreases-loop
+mul-f-2 c = omega (arith, (begun c.before.before.before).requires.0.neat.within)
 
-element-set-from-f : tie.Need-element-set-from-f invariant-loop decreases-loop
-element-set-from-f c = omega (arith, (begun c.before.before.before).pre.0.neat.within)
+element-set-from-f : tie.Need-bounds-n-j-in-loop-j invariant-loop decreases-loop
+element-set-from-f c = omega (arith, (begun c.before.before.before).requires.0.neat.within)
 
-add-j : tie.Need-overflow-add-j invariant-loop decreases-loop
+add-j : tie.Need-overflow_add-j invariant-loop decreases-loop
 add-j c = search rules
 
-loop-less : tie.Need-loop-smaller invariant-loop decreases-loop
+loop-less : tie.Need-loop-j-smaller invariant-loop decreases-loop
 loop-less c = search rules
 
-loop-again : tie.Need-loop-preserved invariant-loop decreases-loop
+loop-again : tie.Need-loop-j-preserved invariant-loop decreases-loop
 loop-again c =
     let a = c.before.before in
     let s = begun a.before in
-    let lt : a.loop.j + 1 < length s.args.s.entries = omega (arith, (slots s).slots.full, s.pre.0.neat.within) in
-    (omega arith, omega arith, shift-more a.loop.invariant.2 a.loop.invariant.0 lt _, frame-more _ a.loop.invariant.3)
+    let lt : a.loop-j.j + 1 < length s.args.s.entries = omega (arith, (slots s).slots.full, s.requires.0.neat.within) in
+    (omega arith, omega arith, shift-more a.loop-j.invariant.2 a.loop-j.invariant.0 lt _, frame-more _ a.loop-j.invariant.3)
 
-empty-requires : tie.Need-empty-requires invariant-loop decreases-loop
+empty-requires : tie.Need-empty-unused-requires invariant-loop decreases-loop
 empty-requires c κs = search rules
 
-mul-unused : tie.Need-overflow-mul-unused invariant-loop decreases-loop
-mul-unused c = omega (arith, (begun c.before.before.before).pre.0.neat.within)
+mul-unused : tie.Need-offset_bounds-n-last invariant-loop decreases-loop
+mul-unused c = omega (arith, (begun c.before.before.before).requires.0.neat.within)
 
-element-set-from-unused : tie.Need-element-set-from-unused invariant-loop decreases-loop
-element-set-from-unused c = omega (arith, (begun c.before.before.before).pre.0.neat.within)
+element-set-from-unused : tie.Need-bounds-n-last invariant-loop decreases-loop
+element-set-from-unused c = omega (arith, (begun c.before.before.before).requires.0.neat.within)
 
 returns : tie.Need-returns invariant-loop decreases-loop
 returns c =
@@ -137,19 +132,19 @@ returns c =
     let first = first-lowered low in
     let few = lowered_by first in
     let s = begun low in
-    let end : a.loop.j ≡ s.args.s.count - 1 = omega arith in
+    let end : a.loop-j.j ≡ s.args.s.count - 1 = omega arith in
     let more : s.args.s.count - 1 + 1 ≡ s.args.s.count = omega (arith, used (slots s) (there s)) in
     let x = rw (write-list few) at first.lower.ensures.0 in
-    let y = rw (read-list few.before) at low.lower2.ensures.0 in
-    let q = removed-holds (slots s).slots (rw end at a.loop.invariant.2) (omega arith) more in
+    let y = rw (read-list few.before) at low.lower-2.ensures.0 in
+    let q = removed-holds (slots s).slots (rw end at a.loop-j.invariant.2) (omega arith) more in
     record {
-      state = rw (a.loop.invariant.3.same, c.empty.ensures) (leaves-becomes s.pre.0 s.args.at (there s) (formed s) x y first.lower.ensures.1 low.lower2.ensures.1 q);
+      state = rw (a.loop-j.invariant.3.same, c.empty-unused.ensures) (leaves-becomes s.requires.0 s.args.at (there s) (formed s) x y first.lower.ensures.1 low.lower-2.ensures.1 q);
       answer = refl;
       burnt = refl;
     }
 
-pub released-spec : {M : Type 1} → statement M
-released-spec =
+pub released_spec : {M : Type 1} → statement M
+released_spec =
     tie.close
     (tie.spec
     invariant-loop

@@ -10,52 +10,47 @@ use Rattle.manager.proofs.Billing.{bill-paid, bill-none}
 use borrow.Author.Rules.{rules}
 use Rattle.manager.proofs.refusal.billed.Statement.{statement}
 use Rattle.manager.proofs.refusal.billed.Tie as tie
-use Rattle.manager.proofs.refusal.billed.Reads as reads
-use Rattle.manager.proofs.refusal.billed.Lts as lts
-use Rattle.manager.proofs.refusal.burns.Reads as burns-reads
-use Rattle.manager.proofs.tenants.is_tenant.Reads as is-tenant-reads
-use Rattle.meter.proofs.charged.Reads as charged-reads
 
-is_one : (c : tie.Then1) → is_tenant c.before.before.args.who ≡ true
-is_one c = sym c.before.is-tenant.ensures ∙ c.if1.true
+is_one : (c : tie.Then-is_tenant) → is_tenant c.before.before.args.who ≡ true
+is_one c = sym c.before.is_tenant.ensures ∙ c.if-is_tenant.true
 
-is-tenant-requires : tie.Need-is-tenant-requires
+is-tenant-requires : tie.Need-is_tenant-requires
 is-tenant-requires c κs = search rules
 
-sub-i : tie.Need-overflow-sub-i
+sub-i : tie.Need-overflow_sub-i
 sub-i c = (tenant-range _ (is_one c)).0
 
-cast-i : tie.Need-overflow-cast-i
+cast-i : tie.Need-overflow_cast-i
 cast-i c = search rules
 
-mul-m : tie.Need-overflow-mul-m
+mul-m : tie.Need-offset_bounds-meters-i
 mul-m c = search rules
 
-array-copy-out-m : tie.Need-array-copy-out-m
+array-copy-out-m : tie.Need-bounds-meters-i
 array-copy-out-m c = omega (arith, (tenant-range c.before.before.args.who (is_one c)).1)
 
-burns-requires : tie.Need-burns-requires
+burns-requires : tie.Need-burns-burnt-requires
 burns-requires c κs = search rules
 
-charged-requires : tie.Need-charged-requires
-charged-requires c κs = rw c.burns.ensures (charge-fits clause9 _ _)
+charged-requires : tie.Need-charged-paid-requires
+charged-requires c κs = rw c.burns-burnt.ensures (charge-fits clause9 _ _)
 
-mul-meters : tie.Need-overflow-mul-meters
+mul-meters : tie.Need-offset_bounds-meters-i-then-is_tenant
 mul-meters c = search rules
 
-array-set-from-meters : tie.Need-array-set-from-meters
+array-set-from-meters : tie.Need-bounds-meters-i-then-is_tenant
 array-set-from-meters c = let one = c.before.before.before in omega (arith, (tenant-range one.before.before.args.who (is_one one)).1)
 
-returns : tie.Need-returns
+returns : tie.Need-returns-then-is_tenant
 returns c =
     let one = c.before.before.before in
-    bill-paid _ _ _ _ _ (is_one one) c.before.burns.ensures c.charged.ensures
+    bill-paid _ _ _ _ _ (is_one one) c.before.burns-burnt.ensures c.charged-paid.ensures
 
-returns-2 : tie.Need-returns-2
-returns-2 c = bill-none _ _ _ (sym c.before.is-tenant.ensures ∙ c.if1.false)
+returns-2 : tie.Need-returns-else-is_tenant
+returns-2 c = bill-none _ _ _ (sym c.before.is_tenant.ensures ∙ c.if-is_tenant.false)
 
-pub billed-spec : {M : Type 1} → statement M
-billed-spec =
+pub billed_spec : {M : Type 1} → statement M
+billed_spec =
     tie.close
     (tie.spec
     is-tenant-requires
