@@ -1,10 +1,10 @@
 -- An answer tells whether something holds: the ways out of a function that tells, and what a call has told it.
 use Prim.Native.Nat.{ℕ, zero, suc, ◌≤◌, ◌<◌}
 use mathlib.Core.Path.{◌≡◌, refl, sym, ◌∙◌}
-use mathlib.Core.Bool.{Bool, true, false, not, true≢false}
+use mathlib.Core.Bool.{Bool, true, false, true≢false}
 use native.Mathlib.Omega.{arith}
 use lib.Dec.{eqb, ltb, leb}
-use borrow.Author.Tests.{eqb-true, eqb-false, ltb-true, ltb-false, leb-true, leb-false, not-true, not-false}
+use borrow.Author.Tests.{eqb-true, eqb-false, ltb-true, ltb-false, leb-true, leb-false}
 use Rattle.rules.specs.declared.Mode.TheVariants.{Free, Waiting, Blocked}
 use Rattle.rules.specs.Request.{is_blocked}
 use Rattle.block.specs.Clauses.{mode_of, Suits}
@@ -19,12 +19,12 @@ test-tells e = record { yes = λ y. sym e ∙ y; other = λ n t. true≢false (s
 -- ---- a call tells of a part
 module _ {r : Bool} {P : Type 0} (told : Tells r P) where
   -- the part fails, and so the whole
-  pub part-fails : {Q : Type 0} → not r ≡ true → (Q → P) → Tells false Q
-  part-fails test part = tells-no (λ q. told.other (not-true r test) (part q))
+  pub part-fails : {Q : Type 0} → r ≡ false → (Q → P) → Tells false Q
+  part-fails test part = tells-no (λ q. told.other test (part q))
 
   -- the part holds
-  pub part-holds : not r ≡ false → P
-  part-holds test = told.yes (not-false r test)
+  pub part-holds : r ≡ true → P
+  part-holds test = told.yes test
 
   -- the part is the last: the whole holds where it does
   pub part-last : {Q : Type 0} → (P → Q) → (Q → P) → Tells r Q

@@ -6,40 +6,40 @@ use borrow.Author.Rules.{rules}
 use Rattle.block.proofs.check.given.Statement.{statement}
 use Rattle.block.proofs.check.given.Tie as tie
 
-mul_at : tie.Need-overflow-mul-at
+mul_at : tie.Need-overflow_mul-at
 mul_at c = search rules
 
-add_at : tie.Need-overflow-add-at
+add_at : tie.Need-overflow_add-at
 add_at c = search rules
 
-add-end : tie.Need-overflow-add-end
+add-end : tie.Need-overflow_add-end
 add-end c = search rules
 
-sub-meter-from : tie.Need-overflow-sub-meter-from
+sub-meter-from : tie.Need-slice_bounds-meter_from-count
 sub-meter-from c = search rules
 
-part-meter-from-start : tie.Need-slice-bounds-meter-from-start
+part-meter-from-start : tie.Need-slice_bounds-meter_from-start
 part-meter-from-start c = search rules
 
-part-meter-from-end : tie.Need-slice-bounds-meter-from-end
+part-meter-from-end : tie.Need-slice_bounds-meter_from-end
 part-meter-from-end c = search rules
 
-add-meter-from : tie.Need-overflow-add-meter-from
+add-meter-from : tie.Need-overflow_add-k
 add-meter-from c = search rules
 
-shared-slice-read-meter-from : tie.Need-shared-slice-read-meter-from
+shared-slice-read-meter-from : tie.Need-bounds-b-k
 shared-slice-read-meter-from c = search rules
 
-meter-from-requires : tie.Need-meter-from-requires
+meter-from-requires : tie.Need-meter_from-m-requires
 meter-from-requires c κs = search rules
 
 returns : tie.Need-returns
 returns c =
     let s = c.before.before.before.before in
-    ap (λ (m : Meter). m.serials) (meter-cut s.args.b.now s.args.k c.meter-from.ensures)
+    ap (λ (m : Meter). m.serials) (meter-cut s.args.b.now s.args.k c.meter_from-m.ensures)
 
-pub given-spec : {M : Type 1} → statement M
-given-spec =
+pub given_spec : {M : Type 1} → statement M
+given_spec =
     tie.close
     (tie.spec
     mul_at

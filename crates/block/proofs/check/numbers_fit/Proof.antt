@@ -14,58 +14,58 @@ use Rattle.block.proofs.check.numbers_fit.Tie as tie
 range : {p : List ℕ} → NumbersFit p → (1 ≤ get_or p 0 0) × (get_or p 0 0 ≤ 16)
 range {p} f = tenant-range (get_or p 0 0) f.tenant
 
-shared-slice-read-if1 : tie.Need-shared-slice-read-if1
+shared-slice-read-if1 : tie.Need-bounds-p-0
 shared-slice-read-if1 c = search rules
 
-returns : tie.Need-returns
-returns c = tells-no (λ f. omega (arith, (range f).0, c.if1.true))
+returns : tie.Need-returns-then-p-lt1
+returns c = tells-no (λ f. omega (arith, (range f).0, c.if-p-lt1.true))
 
-shared-slice-read-if2 : tie.Need-shared-slice-read-if2
+shared-slice-read-if2 : tie.Need-bounds-p-0-2
 shared-slice-read-if2 c = search rules
 
-returns-2 : tie.Need-returns-2
-returns-2 c = tells-no (λ f. omega (arith, (range f).1, c.if2.true))
+returns-2 : tie.Need-returns-then-p-gt16
+returns-2 c = tells-no (λ f. omega (arith, (range f).1, c.if-p-gt16.true))
 
-shared-slice-read-if3 : tie.Need-shared-slice-read-if3
+shared-slice-read-if3 : tie.Need-bounds-p-4
 shared-slice-read-if3 c = search rules
 
-returns-3 : tie.Need-returns-3
-returns-3 c = tells-no (λ f. omega (arith, f.awaited, c.if3.true))
+returns-3 : tie.Need-returns-then-p-gt15
+returns-3 c = tells-no (λ f. omega (arith, f.awaited, c.if-p-gt15.true))
 
-shared-slice-read-if4 : tie.Need-shared-slice-read-if4
+shared-slice-read-if4 : tie.Need-bounds-p-4-2
 shared-slice-read-if4 c = search rules
 
-shared-slice-read-if4-2 : tie.Need-shared-slice-read-if4-2
+shared-slice-read-if4-2 : tie.Need-bounds-p-5
 shared-slice-read-if4-2 c = search rules
 
-returns-4 : tie.Need-returns-4
-returns-4 c = tells-no (λ f. omega (arith, f.due, c.if4.true))
+returns-4 : tie.Need-returns-then-p
+returns-4 c = tells-no (λ f. omega (arith, f.due, c.if-p.true))
 
-shared-slice-read-if5 : tie.Need-shared-slice-read-if5
+shared-slice-read-if5 : tie.Need-bounds-p-3
 shared-slice-read-if5 c = search rules
 
-returns-5 : tie.Need-returns-5
-returns-5 c = tells-no (λ f. omega (arith, f.state, c.if5.true))
+returns-5 : tie.Need-returns-then-p-gt2
+returns-5 c = tells-no (λ f. omega (arith, f.state, c.if-p-gt2.true))
 
-shared-slice-read-suits : tie.Need-shared-slice-read-suits
+shared-slice-read-suits : tie.Need-bounds-p-3-2
 shared-slice-read-suits c = search rules
 
-shared-slice-read-suits-2 : tie.Need-shared-slice-read-suits-2
+shared-slice-read-suits-2 : tie.Need-bounds-p-5-2
 shared-slice-read-suits-2 c = search rules
 
-shared-slice-read-suits-3 : tie.Need-shared-slice-read-suits-3
+shared-slice-read-suits-3 : tie.Need-bounds-p-6
 shared-slice-read-suits-3 c = search rules
 
-shared-slice-read-suits-4 : tie.Need-shared-slice-read-suits-4
+shared-slice-read-suits-4 : tie.Need-bounds-p-7
 shared-slice-read-suits-4 c = search rules
 
-add-suits : tie.Need-overflow-add-suits
+add-suits : tie.Need-overflow_add-p
 add-suits c = search rules
 
 suits-requires : tie.Need-suits-requires
 suits-requires c κs = search rules
 
-returns-6 : tie.Need-returns-6
+returns-6 : tie.Need-returns
 returns-6 c =
     let five = c.before.before.before.before.before in
     let four = five.before.before in
@@ -78,16 +78,16 @@ returns-6 c =
     part-last
     c.suits.ensures
     (λ a. record {
-      tenant = tenant-test (get_or p 0 0) one.if1.false two.if2.false;
-      awaited = three.if3.false;
-      due = four.if4.false;
-      state = five.if5.false;
+      tenant = tenant-test (get_or p 0 0) one.if-p-lt1.false two.if-p-gt16.false;
+      awaited = three.if-p-gt15.false;
+      due = four.if-p.false;
+      state = five.if-p-gt2.false;
       suits = last.to a;
     })
     (λ f. last.from f.suits)
 
-pub numbers-fit-spec : {M : Type 1} → statement M
-numbers-fit-spec =
+pub numbers_fit_spec : {M : Type 1} → statement M
+numbers_fit_spec =
     tie.close
     (tie.spec
     shared-slice-read-if1

@@ -1,6 +1,5 @@
 -- The first n places are filled one by one, and the others stay zero.
 use Prim.Native.Nat.{◌+◌, ◌-◌, ◌≤◌, min}
-use mathlib.Core.Logic.{⊎_elim}
 use native.Mathlib.Omega.{arith}
 use lib.ListN.{get_or}
 use Rattle.block.proofs.Places.{Filled, fill_start, fill_on, fill-past, fill_done}
@@ -8,37 +7,41 @@ use Rattle.block.proofs.Reading.{filled-kept}
 use borrow.Author.Rules.{rules}
 use Rattle.block.proofs.read.row.Statement.{statement}
 use Rattle.block.proofs.read.row.Tie as tie
-use Rattle.block.proofs.read.row.Reads as reads
-use Rattle.block.proofs.read.row.Lts as lts
+use Rattle.block.proofs.read.row.Lts.{then-k-n, else-k-n}
 
-abbrev invariant-loop : tie.invariant-loop
+abbrev invariant-loop : tie.invariant-loop-k
 invariant-loop p at n out₀ k₀ out k = (k ≤ 8) × Filled (λ j. get_or p (at + j) 0) 0 8 n (min k n) out
 
-abbrev decreases-loop : tie.decreases-loop
+abbrev decreases-loop : tie.decreases-loop-k
 decreases-loop p at n out₀ k₀ out k = 8 - k
 
-loop-holds : tie.Need-loop-init invariant-loop decreases-loop
+loop-holds : tie.Need-loop-k-init invariant-loop decreases-loop
 loop-holds c = (search rules, fill_start _ 0 8 c.args.n)
 
-add-out : tie.Need-overflow-add-out invariant-loop decreases-loop
+add-out : tie.Need-overflow_add-out invariant-loop decreases-loop
 add-out c = search rules
 
-shared-slice-read-out : tie.Need-shared-slice-read-out invariant-loop decreases-loop
+shared-slice-read-out : tie.Need-bounds-p-at invariant-loop decreases-loop
 shared-slice-read-out c = search rules
 
-array-write-out : tie.Need-array-write-out invariant-loop decreases-loop
+array-write-out : tie.Need-bounds-out-k invariant-loop decreases-loop
 array-write-out c = search rules
 
-add-k : tie.Need-overflow-add-k invariant-loop decreases-loop
+add-k : tie.Need-overflow_add-k invariant-loop decreases-loop
 add-k c = search rules
 
-loop-less : tie.Need-loop-smaller invariant-loop decreases-loop
+loop-less : tie.Need-loop-k-smaller invariant-loop decreases-loop
 loop-less c = search rules
 
-loop-again : tie.Need-loop-preserved invariant-loop decreases-loop
+loop-again : tie.Need-loop-k-preserved invariant-loop decreases-loop
 loop-again c =
-    let a = c.before.before in
-    (search rules, ⊎_elim (λ w. fill_on _ 0 a.loop.invariant.1 w.0.taken (omega arith) w.2) (λ w. fill-past _ 0 a.loop.invariant.1 w.0.left w.1) c.if1.branch)
+    let a = c.before.before in (
+      search rules,
+      elim c.if-k-n.branch [
+        | then-k-n w ↦ fill_on _ 0 a.loop-k.invariant.1 w.if-k-n.true (omega arith) w.out-is
+        | else-k-n w ↦ fill-past _ 0 a.loop-k.invariant.1 w.if-k-n.false w.out-is
+      ],
+    )
 
 returns : tie.Need-returns invariant-loop decreases-loop
 returns c =
@@ -46,10 +49,10 @@ returns c =
     let s = a.before in
     let n = s.args.n in
     let p = s.args.p.now in
-    filled-kept p s.args.at n s.requires.0 s.requires.1 (fill_done _ 0 a.loop.invariant.1 (omega (arith, c.loop-test.false)))
+    filled-kept p s.args.at n s.requires.0 s.requires.1 (fill_done _ 0 a.loop-k.invariant.1 (omega (arith, c.loop-k-test.false)))
 
-pub row-spec : {M : Type 1} → statement M
-row-spec =
+pub row_spec : {M : Type 1} → statement M
+row_spec =
     tie.close
     (tie.spec
     invariant-loop

@@ -3,28 +3,23 @@ use borrow.Author.Rules.{rules}
 use Rattle.block.specs.Bytes.{meter_bytes}
 use Rattle.block.proofs.write.meter_bytes.Statement.{statement}
 use Rattle.block.proofs.write.meter_bytes.Tie as tie
-use Rattle.block.proofs.write.meter_bytes.Reads as reads
-use Rattle.block.proofs.write.meter_bytes.Lts as lts
-use Rattle.block.proofs.write.byte.Reads as byte-Reads
-use Rattle.block.proofs.write.high.Reads as high-reads
-use Rattle.block.proofs.write.low.Reads as low_reads
 
-byte-requires : tie.Need-byte-requires
+byte-requires : tie.Need-byte-a-requires
 byte-requires c κs = search rules
 
-byte-requires-2 : tie.Need-byte-requires-2
+byte-requires-2 : tie.Need-byte-b-requires
 byte-requires-2 c κs = search rules
 
-byte-requires-3 : tie.Need-byte-requires-3
+byte-requires-3 : tie.Need-byte-c-requires
 byte-requires-3 c κs = search rules
 
-byte-requires-4 : tie.Need-byte-requires-4
+byte-requires-4 : tie.Need-byte-d-requires
 byte-requires-4 c κs = search rules
 
-high-requires : tie.Need-high-requires
+high-requires : tie.Need-high-e-requires
 high-requires c κs = search rules
 
-low-requires : tie.Need-low-requires
+low-requires : tie.Need-low-f-requires
 low-requires c κs = search rules
 
 returns : tie.Need-returns
@@ -35,10 +30,10 @@ returns c =
     let k = d.before.before in
     let b = k.before.before in
     let a = b.before.before in
-    rw (c.low.ensures, h.high.ensures, d.byte4.ensures, k.byte3.ensures, b.byte2.ensures, a.byte.ensures)
+    rw (c.low-f.ensures, h.high-e.ensures, d.byte-d.ensures, k.byte-c.ensures, b.byte-b.ensures, a.byte-a.ensures)
 
-pub meter-bytes-spec : {M : Type 1} → statement M
-meter-bytes-spec =
+pub meter_bytes_spec : {M : Type 1} → statement M
+meter_bytes_spec =
     tie.close
     (tie.spec
     byte-requires

@@ -11,73 +11,70 @@ use Rattle.block.specs.Bytes.{share_byte}
 use Rattle.block.proofs.Writing.{Rows, rows_none, rows-put}
 use Rattle.block.proofs.write.put_shares.Statement.{statement}
 use Rattle.block.proofs.write.put_shares.Tie as tie
-use Rattle.block.proofs.write.put_shares.Reads as reads
-use Rattle.block.proofs.write.put_shares.Lts as lts
-use Rattle.block.proofs.write.put.Reads as put_reads
 
-abbrev invariant-loop : tie.invariant-loop
+abbrev invariant-loop : tie.invariant-loop-i
 invariant-loop b₀ ms i₀ b i = (i ≤ 16) × Rows share_byte 1 3 (map meter_view ms) b₀ i b
 
-abbrev decreases-loop : tie.decreases-loop
+abbrev decreases-loop : tie.decreases-loop-i
 decreases-loop b₀ ms i₀ b i = 16 - i
 
-sixteen : (c : tie.Start invariant-loop decreases-loop) → length (map meter_view c.args.t2) ≡ 16
-sixteen c = length-map c.args.t2 meter_view ∙ c.well-formed.1.0.1.0.1
+sixteen : (c : tie.Start invariant-loop decreases-loop) → length (map meter_view c.args.ms) ≡ 16
+sixteen c = length-map c.args.ms meter_view ∙ c.well_formed.1.0.1.0.1
 
-loop-holds : tie.Need-loop-init invariant-loop decreases-loop
+loop-holds : tie.Need-loop-i-init invariant-loop decreases-loop
 loop-holds c = (search rules, rows_none _ _ _ _ _)
 
-mul-m : tie.Need-overflow-mul-m invariant-loop decreases-loop
+mul-m : tie.Need-offset_bounds-ms-i invariant-loop decreases-loop
 mul-m c = search rules
 
-array-copy-out-m : tie.Need-array-copy-out-m invariant-loop decreases-loop
+array-copy-out-m : tie.Need-bounds-ms-i invariant-loop decreases-loop
 array-copy-out-m c = search rules
 
-mul-put : tie.Need-overflow-mul-put invariant-loop decreases-loop
+mul-put : tie.Need-overflow_mul-i invariant-loop decreases-loop
 mul-put c = search rules
 
-add-put : tie.Need-overflow-add-put invariant-loop decreases-loop
+add-put : tie.Need-overflow_add-i invariant-loop decreases-loop
 add-put c = search rules
 
-slice-aggregate-put : tie.Need-slice-aggregate-put invariant-loop decreases-loop
+slice-aggregate-put : tie.Need-slice_bounds-put-end invariant-loop decreases-loop
 slice-aggregate-put c = search rules
 
 put-requires : tie.Need-put-requires invariant-loop decreases-loop
 put-requires c κs = search rules
 
-add-i : tie.Need-overflow-add-i invariant-loop decreases-loop
+add-i : tie.Need-overflow_add-i-in-loop-i invariant-loop decreases-loop
 add-i c = search rules
 
-loop-less : tie.Need-loop-smaller invariant-loop decreases-loop
+loop-less : tie.Need-loop-i-smaller invariant-loop decreases-loop
 loop-less c = search rules
 
 -- from the put back to the loop
-abbrev turn : tie.After-put invariant-loop decreases-loop → tie.At-loop invariant-loop decreases-loop
+abbrev turn : tie.After-put invariant-loop decreases-loop → tie.At-loop-i invariant-loop decreases-loop
 turn c = c.before.before.before.before.before
 
-loop-again : tie.Need-loop-preserved invariant-loop decreases-loop
+loop-again : tie.Need-loop-i-preserved invariant-loop decreases-loop
 loop-again c =
     let w = c.before.before in
     let a = turn w in
     let s = a.before.before in
-    let ms = s.args.t2 in
-    let i = a.loop.i in
+    let ms = s.args.ms in
+    let i = a.loop-i.i in
     let there : i < length (map meter_view ms) = omega (arith, sixteen s) in
-    (search rules, rows-put _ _ _ _ a.loop.inv.1 (meter_view no_meter) there (ap share_byte (sym (get_or-map meter_view ms i no_meter))) refl (omega (arith, a.loop.inv.1.size)) w.put.ensures)
+    (search rules, rows-put _ _ _ _ a.loop-i.invariant.1 (meter_view no_meter) there (ap share_byte (sym (get_or-map meter_view ms i no_meter))) refl (omega (arith, a.loop-i.invariant.1.size)) w.put.ensures)
 
-same_length : tie.Need-same-length invariant-loop decreases-loop
-same_length c = c.before.loop.invariant.1.size
+same_length : tie.Need-shape_of-b invariant-loop decreases-loop
+same_length c = c.before.loop-i.invariant.1.size
 
 returns : tie.Need-returns invariant-loop decreases-loop
 returns c =
     let s = c.before.before.before in
-    let ms = map meter_view s.args.t2 in
-    let all : c.before.loop.i ≡ 16 = omega arith in
+    let ms = map meter_view s.args.ms in
+    let all : c.before.loop-i.i ≡ 16 = omega arith in
     let whole : length ms ≤ 16 = omega (arith, sixteen s) in
-    rw (take_all 16 ms whole) at (rw all at c.before.loop.invariant.1.first)
+    rw (take_all 16 ms whole) at (rw all at c.before.loop-i.invariant.1.first)
 
-pub put-shares-spec : {M : Type 1} → statement M
-put-shares-spec =
+pub put_shares_spec : {M : Type 1} → statement M
+put_shares_spec =
     tie.close
     (tie.spec
     invariant-loop
