@@ -108,10 +108,6 @@ BEGIN {
 /^[ \t]*$/ { near = owner = span = ""; inside = 0; next }
 /^ *- / { near = owner = "" }
 
-# between fences stands a program, which cites nothing
-/^```/ { fenced = !fenced; next }
-fenced { next }
-
 # a command to type
 /^    / && !inside {
     count = split($0, word, " ")

@@ -30,6 +30,12 @@ wrong_usage() {
     exit 1
 }
 
+# usage_alone: of a command whose tests hold it to saying no more
+usage_alone() {
+    print_help | head -n 1 >&2
+    exit 1
+}
+
 # known_words WORDS..: -h, --help and --version among them are done, and end the command
 known_words() {
     local word

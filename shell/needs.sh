@@ -42,11 +42,10 @@ needs_x86_64() {
     package "${missing[@]}"
 }
 
-# needs_browser: Debian's chromium with its driver, the library by which its python drives it, and what reads a printed page;
-# $python is that one
+# needs_browser: Debian's chromium with its driver, and the library by which its python drives it; $python is that one
 needs_browser() {
     local missing
-    mapfile -t missing < <(missing_of chromium chromium-driver python3-selenium poppler-utils)
+    mapfile -t missing < <(missing_of chromium chromium-driver python3-selenium)
     [ "${#missing[@]}" -eq 0 ] || package "${missing[@]}"
     python=/usr/bin/python3
 }

@@ -1,9 +1,7 @@
 """A real browser without a window, and what is read off a page in it: what a student sees, never the page's own variables."""
 
-import base64
 import json
 import re
-import subprocess
 from pathlib import Path
 
 from selenium import webdriver
@@ -13,19 +11,9 @@ from selenium.webdriver.common.action_chains import ActionChains
 from selenium.webdriver.common.by import By
 from selenium.webdriver.support.ui import WebDriverWait
 
-from pixels import Picture
-
-WIDTHS = (375, 800, 1024, 1280)
-NARROW, *_, WIDE = WIDTHS
+WIDE, NARROW = 1280, 400
 HEIGHT = 900
-A4 = {"paperWidth": 8.27, "paperHeight": 11.69}
 READING = Path(__file__).with_name("reading.js").read_text(encoding="utf-8")
-
-# What can be done at each step of a run within one script: the page's own way of stepping, without a wait for a picture.
-STEPPING = """
-const read = () => { %s };
-const press = (key) => document.body.dispatchEvent(new KeyboardEvent("keydown", { key, bubbles: true, cancelable: true }));
-""" % READING
 
 
 class Browser:
@@ -47,17 +35,12 @@ class Browser:
     def resize(self, width, height=HEIGHT):
         self._command("Emulation.setDeviceMetricsOverride", width=width, height=height, deviceScaleFactor=1, mobile=False)
 
-    def colours(self, scheme, media="", **features):
-        """Light or dark, on the screen or in print; features are as `forced_colors="active"`."""
-        named = {"prefers-color-scheme": scheme, **{name.replace("_", "-"): value for name, value in features.items()}}
-        self._command("Emulation.setEmulatedMedia", media=media, features=[{"name": name, "value": value} for name, value in named.items()])
-
-    def letters(self, size):
-        """The size of letters that the reader has chosen for the browser."""
-        self._command("Page.setFontSizes", fontSizes={"standard": size, "fixed": size})
+    def colours(self, scheme):
+        features = [{"name": "prefers-color-scheme", "value": scheme}]
+        self._command("Emulation.setEmulatedMedia", features=features)
 
     def _command(self, name, **settings):
-        return self.driver.execute_cdp_cmd(name, settings)
+        self.driver.execute_cdp_cmd(name, settings)
 
     def open(self, path, address=""):
         """Opens a page anew, and waits for its chart, which comes last; an index and an empty run have none."""
@@ -72,16 +55,6 @@ class Browser:
     def read(self):
         """All that the page shows of its step."""
         return json.loads(self.run(READING))
-
-    def read_all(self, count, key="ArrowRight"):
-        """What the page shows of its step and of those that the key leads to, one after the other."""
-        return json.loads(self.run(STEPPING + """
-            const shown = [];
-            for (let count = 0; count < arguments[0]; count += 1) {
-              if (count > 0) press(arguments[1]);
-              shown.push(read());
-            }
-            return `[${shown.join(",")}]`;""", count, key))
 
     def press(self, *keys):
         ActionChains(self.driver).send_keys(*keys).perform()
@@ -110,20 +83,6 @@ class Browser:
 
     def messages(self):
         return [entry["message"] for entry in self.driver.get_log("browser")]
-
-    def look(self, selector):
-        """A picture of an element, with two pixels around it."""
-        x, y, width, height = self.run(
-            "const { x, y, width, height } = document.querySelector(arguments[0]).getBoundingClientRect();"
-            "return [x + scrollX, y + scrollY, width, height]", selector)
-        clip = {"x": round(x) - 2, "y": round(y) - 2, "width": round(width) + 4, "height": round(height) + 4, "scale": 1}
-        found = self._command("Page.captureScreenshot", format="png", clip=clip, captureBeyondViewport=True)
-        return Picture(base64.b64decode(found["data"]))
-
-    def printed(self):
-        """What the page has on paper, as text, its columns beside each other."""
-        pdf = base64.b64decode(self._command("Page.printToPDF", **A4)["data"])
-        return subprocess.run(["pdftotext", "-layout", "-", "-"], input=pdf, capture_output=True, check=True).stdout.decode("utf-8")
 
     def picture(self, path):
         """A picture of the whole page, however long it is."""

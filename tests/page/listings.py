@@ -28,11 +28,6 @@ def fields(line):
     return Line(*line.split(" "))
 
 
-def said(field):
-    """A field of a line as the page says it: a number has its thousands parted."""
-    return f"{int(field):,}" if field.isdigit() else field
-
-
 def squeezed(row):
     return " ".join(row.split())
 

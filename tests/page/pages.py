@@ -4,7 +4,7 @@ import os
 import unittest
 from pathlib import Path
 
-from browser import WIDE, Browser
+from browser import Browser
 from listings import ROOT
 
 MADE = Path(os.environ["PAGES"])
@@ -12,9 +12,8 @@ PICTURES = MADE / "pictures"
 EXAMPLES = sorted((MADE / "examples").glob("*.html"))
 GENERATED = sorted((MADE / "generated").glob("*.html"))
 LONG = sorted((MADE / "long").glob("*.html"))
-CHAPTERS = sorted((ROOT / "docs/lesson").glob("[0-9]-*.html"))
+CHAPTERS = sorted((ROOT / "docs/lesson").glob("[0-9]*.html"))
 INDEX = ROOT / "docs/lesson/index.html"
-TEXTS = sorted(set((ROOT / "docs/lesson").glob("*.html")) - {*CHAPTERS, INDEX})
 
 _open = []
 
@@ -43,25 +42,6 @@ def on_each_other(boxes):
             if one[0] < other[1] and other[0] < one[1] and one[2] + 4 < other[3] and other[2] + 4 < one[3]]
 
 
-def for_each(found, weight=0):
-    """Of a test that takes a page one for each of these, so that they can be shared out; the weight tells that they take long."""
-    def spread(kind):
-        for name, check in [(name, check) for name, check in vars(kind).items() if name.startswith("each_")]:
-            delattr(kind, name)
-            for page in found:
-                spread_one(kind, f"test_{name[5:]}_{page.stem}", check, page)
-        kind.weight = weight
-        return kind
-
-    def spread_one(kind, name, check, page):
-        def test(self):
-            check(self, page)
-        test.__name__, test.__doc__ = name, check.__doc__
-        setattr(kind, name, test)
-
-    return spread
-
-
 class PageTest(unittest.TestCase):
     """A test in the browser: wide and light to begin with, and without a message in the console at its end."""
 
@@ -69,9 +49,8 @@ class PageTest(unittest.TestCase):
 
     def setUp(self):
         self.browser = browser()
-        self.browser.resize(WIDE)
+        self.browser.resize(1280)
         self.browser.colours("light")
-        self.browser.letters(16)
         self.browser.messages()
 
     def tearDown(self):
@@ -81,8 +60,8 @@ class PageTest(unittest.TestCase):
         """The step is shown, by all that tells which one it is."""
         self.browser.until(lambda: self.browser.read()["at"] == step, f"step {step} is shown")
         shown = self.browser.read()
-        self.assertRegex(shown["call"], rf"^Step {step:,}: ")
+        self.assertRegex(shown["call"], rf"^Step {step}: ")
         self.assertRegex(shown["line"], rf"^{step} ")
-        self.assertRegex(shown["announced"], rf"^Step {step:,} of [\d,]+\. ")
+        self.assertRegex(shown["announced"], rf"^Step {step} of \d+\. ")
         self.browser.until(lambda: self.browser.address() == str(step), f"the address is #{step}")
         return shown

@@ -1,17 +1,18 @@
 """How the queue and the counters are drawn: lines from card to card, what is marked, and what is in sight."""
 
 from selenium.webdriver.common.action_chains import ActionChains
+from selenium.webdriver.common.keys import Keys
 
-from browser import NARROW, STEPPING, WIDE
+from browser import NARROW, WIDE
 from listings import steps
-from pages import MADE, PageTest, for_each, on_each_other, run_of
+from pages import MADE, PageTest, on_each_other, run_of
 
 FRONT = MADE / "examples/front.html"
 HUNG = MADE / "examples/hung.html"
 FULL = MADE / "generated/deep-2.html"
 LABELLED = [HUNG, *[MADE / f"generated/{name}.html" for name in ("boundary-20", "overlap-5", "remote-11", "worst-17")]]
 
-# Of each line: who waits for whom, on which cards it begins and ends, and whether it is drawn, with a head at its end.
+# Of each line: who waits for whom, and on which cards it begins, ends, and has its head.
 LINES = """
 const cardAt = (y) => [...document.querySelectorAll('.card')].find((card) => {
   const { top, bottom } = card.getBoundingClientRect();
@@ -21,8 +22,7 @@ const { top } = document.querySelector('#conflicts').getBoundingClientRect();
 return [...document.querySelectorAll('.conflict')].map((line) => [
   line.dataset.from, line.dataset.to,
   cardAt(top + line.getPointAtLength(0).y), cardAt(top + line.getPointAtLength(line.getTotalLength()).y),
-  getComputedStyle(line).stroke !== 'none' && getComputedStyle(line).markerEnd === 'url("#head")'
-    && getComputedStyle(document.querySelector('#head path')).fill === getComputedStyle(line).stroke]);
+  cardAt(top + line.nextElementSibling.getBBox().y + 4), getComputedStyle(line).stroke !== 'none']);
 """
 
 # At each step of a run: the border, where the cards begin, where the labels stand, and where each line has one the lines' middles.
@@ -45,7 +45,7 @@ class Lines(PageTest):
         found = self.browser.run(LINES)
         self.assertGreater(len(found), 0)
         for waits, ahead, *drawn in found:
-            self.assertEqual(drawn, [waits, ahead, True])
+            self.assertEqual(drawn, [waits, ahead, ahead, True])
 
     def test_from_card_to_card(self):
         for page, address in [(FRONT, "#6"), (HUNG, "#9"), (FULL, "#120")]:
@@ -79,19 +79,17 @@ class Lines(PageTest):
         return self.browser.run(
             "return [...document.querySelectorAll(`.conflict.${arguments[0]}`)].map(({ dataset }) => [dataset.from, dataset.to])", kind)
 
-
-@for_each(LABELLED, weight=1)
-class Labels(PageTest):
-    def each_label_can_be_read_of(self, page):
+    def test_labels_can_be_read(self):
         """At no step does a label lie on another or under a card, or is cut off; where each line has one, it stands by the line's middle."""
         for width in (WIDE, NARROW):
             self.browser.resize(width)
-            self.browser.open(page)
-            found = self.browser.run(LABELS)
-            self.assertGreater(max(len(labels) for _, _, labels, _ in found), 3)
-            for at, (border, cards, labels, middles) in enumerate(found, 1):
-                with self.subTest(width=width, step=at):
-                    self.check_labels(border, cards, labels, middles)
+            for page in LABELLED:
+                self.browser.open(page)
+                found = self.browser.run(LABELS)
+                self.assertGreater(max(len(labels) for _, _, labels, _ in found), 3)
+                for at, (border, cards, labels, middles) in enumerate(found, 1):
+                    with self.subTest(width=width, page=page.name, step=at):
+                        self.check_labels(border, cards, labels, middles)
 
     def check_labels(self, border, cards, labels, middles):
         self.assertEqual(on_each_other(labels), [])
@@ -103,29 +101,22 @@ class Labels(PageTest):
 
 class Marks(PageTest):
     def test_the_entry_named_is_in_sight(self):
-        """The card and the tank that the call is about, at every step."""
         self.browser.open(FULL)
-        seen = self.browser.run(STEPPING + """
-            const inSight = (box) => {
-              const [outer, inner] = [`#${box}`, `#${box} .touched`].map((part) => document.querySelector(part)?.getBoundingClientRect());
-              return !inner || (outer.top <= inner.top && inner.bottom <= outer.bottom);
-            };
-            const seen = [];
-            for (let at = 1; at <= document.querySelector('#at').max; at += 1) {
-              seen.push(inSight('queue') && inSight('tanks'));
-              press('ArrowRight');
-            }
-            return seen;""")
-        self.assertEqual([step.line for step, well in zip(steps(run_of(FULL)), seen, strict=True) if not well], [])
+        for step in steps(run_of(FULL)):
+            self.assertTrue(self.browser.run(
+                "const card = document.querySelector('.card.touched');"
+                "if (!card) return true;"
+                "const [box, own] = [document.querySelector('#queue'), card].map((found) => found.getBoundingClientRect());"
+                "return box.top <= own.top && own.bottom <= box.bottom"), step.line)
+            self.browser.press(Keys.ARROW_RIGHT)
 
     def test_what_is_marked_looks_so(self):
         self.browser.open(FRONT, "#8")
         self.assertEqual(self.browser.run(
             "const style = (selector) => getComputedStyle(document.querySelector(selector));"
-            "return [...['.card', '.tank', '.cell'].map((kind) => style(`${kind}.touched`).outlineStyle),"
-            " style('.card:not(.touched)').outlineStyle, style('#lines [aria-current]').fontWeight,"
-            " style('#lines a:not([aria-current])').fontWeight]"),
-            ["solid", "solid", "solid", "none", "700", "400"])
+            "return [style('.card.touched').boxShadow !== 'none', style('.tank.touched').boxShadow !== 'none',"
+            " style('.cell.touched').outlineStyle, style('#lines [aria-current]').fontWeight, style('#lines a:not([aria-current])').fontWeight]"),
+            [True, True, "solid", "700", "400"])
 
     def test_the_grids_number_their_records(self):
         self.browser.open(FRONT)

@@ -1,13 +1,11 @@
 """The quiz: what comes is hidden until the student has chosen, and right answers are counted."""
 
-import json
 import re
 
 from selenium.webdriver.common.keys import Keys
 
-from browser import STEPPING
 from listings import fields, refusal_rows, steps
-from pages import CHAPTERS, EXAMPLES, GENERATED, MADE, PageTest, for_each, run_of
+from pages import CHAPTERS, EXAMPLES, GENERATED, MADE, PageTest, run_of
 
 FRONT = MADE / "examples/front.html"
 
@@ -18,107 +16,10 @@ def choice(line):
     return plain if line.call == "scan" or plain.startswith("refused") else plain.split(":")[0]
 
 
-REFUSED = [page for page in GENERATED if re.match("refusals|boundary-(9|14|18)", page.name)]
-
-# Steps through a run: at each further step what is shown, whether its line is to be seen, and what the question offers; then the
-# answer and the units are given, if these are known, or it is given up; and what is shown then.
-ANSWERING = """
-const one = (selector) => document.querySelector(selector);
-const found = [];
-for (const [line, answer, units] of arguments[0]) {
-  press("ArrowRight");
-  const asked = read();
-  const told = answer !== null && document.body.innerText.includes(line);
-  const offered = [...document.querySelectorAll("#question fieldset label")].map((label) => label.innerText.trim());
-  const choice = [...document.querySelectorAll("#question [name=answer]")].find(({ value }) => value === answer);
-  const asks = one("#question").checkVisibility();
-  if (asks && answer !== null) {
-    if (choice) choice.click();
-    one("#question [name=units]").value = units;
-    one("#question [type=submit]").click();
-  } else if (asks) {
-    one("#give-up").click();
-  }
-  found.push(`[${asked},${told},${JSON.stringify(offered)},${read()}]`);
-}
-return `[${found.join(",")}]`;
-"""
-
-
-class Asked(PageTest):
+class Quiz(PageTest):
     def ask(self, page, address=""):
         self.browser.open(page, address)
         self.browser.click("#ask")
-
-    def answer(self, page, choices):
-        """What is shown at each step of a run from the second on: asked, and answered so, or given up where no answer is given."""
-        self.ask(page)
-        wanted = [step.line for step in steps(run_of(page))[1:]]
-        given = [[line, *choices(fields(line))] for line in wanted]
-        return zip(wanted, json.loads(self.browser.run(STEPPING + ANSWERING, given)))
-
-
-def nothing(_):
-    return None, None
-
-
-@for_each([*EXAMPLES, CHAPTERS[0], *REFUSED], weight=1)
-class EveryAnswer(Asked):
-    def each_answer_is_among_the_choices_of(self, page):
-        """With the right answers given throughout, all are counted."""
-        asked = 0
-        shown = None
-        for number, (wanted, (shown, told, _, after)) in enumerate(self.answer(page, lambda line: (choice(line), line.burnt)), 2):
-            line = fields(wanted)
-            self.assertEqual((shown["at"], shown["asks"]), (number, line.call != "file"))
-            if shown["asks"]:
-                self.check_hidden(wanted, shown, told)
-                asked += 1
-                self.assertEqual(after["verdict"], "Answer: right. Units: right.")
-            self.assertEqual(after["line"], wanted)
-        plural = "s" if asked != 1 else ""
-        self.assertEqual(self.browser.read()["score"], f"right: {asked} of {asked} answer{plural}, {asked} of {asked} price{plural}")
-
-    def check_hidden(self, line, shown, told):
-        number, call, *_ = line.split(" ")
-        self.assertEqual(shown["line"], f"{number} {call} ? ? ?")
-        hidden = [shown[name] for name in ("answer", "burnt", "left", "whose", "meaning", "price", "verdict")]
-        self.assertEqual(hidden, [""] * len(hidden))
-        self.assertEqual(shown["now"], shown["line"])
-        self.assertFalse(told, "the line is to be seen")
-        self.assertTrue(all(card["looked"] == card["why"] == "" for card in shown["cards"]))
-        self.assertNotIn("Answer", shown["announced"])
-
-
-@for_each(EXAMPLES)
-class EveryMark(Asked):
-    def each_mark_is_untold_of(self, page):
-        """Whom a Begin, a Scan or a Pick will be about is part of the answer."""
-        for _, (shown, _, _, _) in self.answer(page, nothing):
-            if shown["typed"].split()[0] in ("begin", "scan", "pick"):
-                marked = [card["name"] for card in shown["cards"] if card["touched"]]
-                self.assertEqual((marked, shown["cxMarked"], shown["csMarked"]), ([], [], []), (page.name, shown["at"]))
-
-
-@for_each([MADE / "examples/hung.html", MADE / "generated/refusals-25.html"])
-class EveryChoice(Asked):
-    def each_choice_is_the_tables_or_a_request_of(self, page):
-        rows = refusal_rows()
-        for wanted, (shown, _, offered, _) in self.answer(page, nothing):
-            call = fields(wanted).call
-            refusals = {f"refused: {number}, {meaning}" for (kind, number), (meaning, _) in rows.items() if kind == call and number != "15"}
-            self.assertEqual({words for words in offered if words.startswith("refused")}, refusals, call)
-            if call == "scan":
-                self.assertEqual([words for words in offered if not words.startswith("refused")], self.found_by_scan(shown))
-
-    def found_by_scan(self, shown):
-        """What a search may say: of each Blocked request of the caller what it becomes, or nothing."""
-        tenant = shown["typed"].split()[1]
-        own = [card["name"] for card in shown["cards"] if card["state"] == "Blocked" and card["name"].startswith(f"{tenant}.")]
-        return [*[f"{name} is {state}" for name in own for state in ("Free", "Waiting")], "nothing"]
-
-
-class Quiz(Asked):
 
     def choose(self, answer, units):
         found = self.browser.run(
@@ -127,6 +28,39 @@ class Quiz(Asked):
         self.assertTrue(found, f"no choice {answer}")
         self.browser.find("#question [name=units]").send_keys(units)
         self.browser.click("#question [type=submit]")
+
+    def test_every_answer_is_among_the_choices(self):
+        """With the right answers given throughout, all are counted."""
+        refused = [page for page in GENERATED if re.match("refusals|boundary-(9|14|18)", page.name)]
+        for page in [*EXAMPLES, CHAPTERS[0], *refused]:
+            with self.subTest(page=page.name):
+                self.ask(page)
+                asked = 0
+                for number, step in enumerate(steps(run_of(page))[1:], 2):
+                    self.browser.press(Keys.ARROW_RIGHT)
+                    line = fields(step.line)
+                    shown = self.browser.read()
+                    self.assertEqual(shown["at"], number)
+                    self.assertEqual(shown["asks"], line.call != "file")
+                    if shown["asks"]:
+                        self.check_hidden(step.line, shown)
+                        self.choose(choice(line), line.burnt)
+                        asked += 1
+                        shown = self.browser.read()
+                        self.assertEqual(shown["verdict"], "Answer: right. Units: right.")
+                    self.assertEqual(shown["line"], step.line)
+                plural = "s" if asked != 1 else ""
+                self.assertEqual(self.browser.read()["score"], f"right: {asked} of {asked} answer{plural}, {asked} of {asked} price{plural}")
+
+    def check_hidden(self, line, shown):
+        number, call, *_ = line.split(" ")
+        self.assertEqual(shown["line"], f"{number} {call} ? ? ?")
+        hidden = [shown[name] for name in ("answer", "burnt", "left", "whose", "meaning", "price", "verdict")]
+        self.assertEqual(hidden, [""] * len(hidden))
+        self.assertEqual(shown["now"], shown["line"])
+        self.assertNotIn(line, self.browser.run("return document.body.innerText"))
+        self.assertTrue(all(card["looked"] == card["why"] == "" for card in shown["cards"]))
+        self.assertNotIn("Answer", shown["announced"])
 
     def test_the_state_is_that_before_the_call(self):
         self.browser.open(FRONT, "#9")
@@ -229,6 +163,39 @@ class Quiz(Asked):
             "return [...document.querySelectorAll('.request rect')].every((bar) => {"
             " const { x, y, height } = bar.getBoundingClientRect();"
             " return !document.elementFromPoint(x + 1, y + height / 2).closest('.request'); })"))
+
+    def test_marks_do_not_tell(self):
+        """Whom a Begin, a Scan or a Pick will be about is part of the answer."""
+        for page in EXAMPLES:
+            self.ask(page)
+            for _ in steps(run_of(page))[1:]:
+                self.browser.press(Keys.ARROW_RIGHT)
+                shown = self.browser.read()
+                if shown["typed"].split()[0] in ("begin", "scan", "pick"):
+                    marked = [card["name"] for card in shown["cards"] if card["touched"]]
+                    self.assertEqual((marked, shown["cxMarked"], shown["csMarked"]), ([], [], []), (page.name, shown["at"]))
+                self.browser.click("#give-up")
+
+    def test_the_choices_are_the_tables_refusals_and_the_callers_requests(self):
+        rows = refusal_rows()
+        for page in [MADE / "examples/hung.html", MADE / "generated/refusals-25.html"]:
+            self.ask(page)
+            for step in steps(run_of(page))[1:]:
+                call = fields(step.line).call
+                self.browser.press(Keys.ARROW_RIGHT)
+                found = self.browser.run("return [...document.querySelectorAll('#question fieldset label')].map((label) => label.innerText.trim())")
+                wanted = {f"refused: {number}, {meaning}" for (kind, number), (meaning, _) in rows.items() if kind == call and number != "15"}
+                self.assertEqual({words for words in found if words.startswith("refused")}, wanted, call)
+                if call == "scan":
+                    self.assertEqual([words for words in found if not words.startswith("refused")], self.found_by_scan())
+                self.browser.click("#give-up")
+
+    def found_by_scan(self):
+        """What a search may say: of each Blocked request of the caller what it becomes, or nothing."""
+        shown = self.browser.read()
+        tenant = shown["typed"].split()[1]
+        own = [card["name"] for card in shown["cards"] if card["state"] == "Blocked" and card["name"].startswith(f"{tenant}.")]
+        return [*[f"{name} is {state}" for name in own for state in ("Free", "Waiting")], "nothing"]
 
     def test_another_refusal_is_wrong(self):
         self.ask(MADE / "examples/stock.html", "#7")

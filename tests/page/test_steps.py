@@ -5,52 +5,52 @@ import re
 from selenium.webdriver.common.keys import Keys
 
 from following import clashes, conflicts, conflicts_ahead, fuel_of, price, ready, records, tank_numbers, tank_places, view, with_whom
-from listings import fields, refusal_rows, said, steps
-from pages import CHAPTERS, EXAMPLES, GENERATED, PageTest, for_each, run_of
+from listings import fields, refusal_rows, steps
+from pages import CHAPTERS, EXAMPLES, GENERATED, PageTest, run_of
 
 ROWS = refusal_rows()
 NAMED_AT_MOST = 4
 LABELLED_AT_MOST = 12
-LOOKS_AT_MOST = 8
 LABELLED_SPAN = 7  # cards, at this width
 ORDINALS = ["front", "2nd", "3rd", *[f"{place}th" for place in range(4, 21)], "21st", "22nd", "23rd", *[f"{place}th" for place in range(24, 31)]]
 
 
-@for_each(EXAMPLES, weight=1)
-class ByKeys(PageTest):
-    def each_key_shows_what_a_script_does_of(self, page):
-        """Forward to the last step and back again."""
-        self.browser.open(page)
-        wanted = self.browser.read_all(len(steps(run_of(page))))
-        for before in wanted[-2::-1]:
-            self.browser.press(Keys.ARROW_LEFT)
-            self.assertEqual(self.browser.read(), before)
-        for after in wanted[1:]:
-            self.browser.press(Keys.ARROW_RIGHT)
-            self.assertEqual(self.browser.read(), after)
-
-    def test_none_is_missing(self):
-        self.assertEqual((len(EXAMPLES), len(CHAPTERS)), (11, 7))
-        self.assertGreater(len(GENERATED), 20)
-
-
-@for_each([*EXAMPLES, *CHAPTERS, *GENERATED], weight=1)
 class EveryStep(PageTest):
-    def each_step_of(self, page):
-        """Forward to the last step, and of what people wrote back again."""
-        self.browser.open(page)
-        wanted = steps(run_of(page))
-        seen = self.browser.read_all(len(wanted))
-        if page not in GENERATED:
-            self.assertEqual(self.browser.read_all(len(wanted), "ArrowLeft"), seen[::-1])
-        for step, shown, before in zip(wanted, seen, [{"cards": [], "tanks": []}, *seen]):
-            with self.subTest(step=step.line):
-                self.check(step, shown, before)
+    def test_examples(self):
+        self.assertEqual(len(EXAMPLES), 11)
+        for page in EXAMPLES:
+            self.follow(page, and_back=True)
 
-    def check(self, step, shown, before):
+    def test_chapters(self):
+        self.assertEqual(len(CHAPTERS), 7)
+        for page in CHAPTERS:
+            self.follow(page, and_back=True)
+
+    def test_generated(self):
+        self.assertGreater(len(GENERATED), 20)
+        for page in GENERATED:
+            self.follow(page)
+
+    def follow(self, page, and_back=False):
+        """Forward by the keys to the last step, and back again."""
+        with self.subTest(page=page.name):
+            self.browser.open(page)
+            wanted = steps(run_of(page))
+            seen = []
+            for step in wanted:
+                shown = self.browser.read()
+                self.check(step, shown, seen)
+                seen.append(shown)
+                self.browser.press(Keys.ARROW_RIGHT)
+            for before in seen[-2::-1] if and_back else []:
+                self.browser.press(Keys.ARROW_LEFT)
+                self.assertEqual(self.browser.read(), before)
+
+    def check(self, step, shown, seen):
         line = fields(step.line)
+        before = seen[-1] if seen else {"cards": [], "tanks": []}
         self.assertEqual(shown["line"], step.line)
-        self.assertEqual((shown["answer"], shown["burnt"], shown["left"]), (line.answer, said(line.burnt), said(line.left)))
+        self.assertEqual((shown["answer"], shown["burnt"], shown["left"]), (line.answer, line.burnt, line.left))
         self.assertEqual((shown["red"], shown["now"]), ([], step.line))
         whose = "" if line.left == "-" else f"in the tank of tenant {shown['typed'].split()[1]}"
         self.assertEqual(shown["whose"], whose)
@@ -124,9 +124,9 @@ class EveryStep(PageTest):
         tenants = [] if line.call in ("open", "pick", "file") else [int(words[1])]
         self.assertEqual([tank["tenant"] for tank in shown["tanks"] if tank["touched"]],
                          [tenant for tenant in tenants if tenant in [tank["tenant"] for tank in shown["tanks"]]])
-        for told, counters, name in [("cxSaid", "cx", "Cx, how many write it"), ("csSaid", "cs", "Cs, how many read it")]:
+        for said, counters, name in [("cxSaid", "cx", "Cx, how many write it"), ("csSaid", "cs", "Cs, how many read it")]:
             more = f" and {len(shown[counters]) - 16} more" if len(shown[counters]) > 16 else ""
-            self.assertEqual(shown[told], f"{name}: {' '.join(shown[counters][:16]) or 'all 0'}{more}")
+            self.assertEqual(shown[said], f"{name}: {' '.join(shown[counters][:16]) or 'all 0'}{more}")
 
     def check_tanks(self, shown, line, before):
         """What is left is what was granted less what was burnt, and a call's units are the named tenant's alone."""
@@ -150,11 +150,9 @@ class EveryStep(PageTest):
         for (_, found), (units, what) in zip(shown["parts"], wanted):
             self.assertEqual(found, f"{units} {what}")
         self.assertEqual(sum(units for units, _ in wanted), int(line.burnt))
-        looks = [f"look: {units} unit{'s' if units > 1 else ''}" for units, what in wanted if what.startswith("for the look at")]
         if len(wanted) > 1:
-            units = [str(units) for units, _ in wanted]
-            terms = [units[0], f"{len(looks)} looks"] if len(looks) > LOOKS_AT_MOST else units
-            self.assertEqual(shown["sum"], f"{' + '.join(terms)} = {said(line.burnt)}")
-        self.assertEqual(shown["folded"], len(looks) > LOOKS_AT_MOST)
+            units = " + ".join(str(units) for units, _ in wanted)
+            self.assertEqual(shown["sum"], f"{units} = {line.burnt}")
         looked = [card["looked"] for card in shown["cards"]]
+        looks = [f"look: {units} unit{'s' if units > 1 else ''}" for units, what in wanted if what.startswith("for the look at")]
         self.assertEqual(looked, (looks + [""] * len(looked))[:len(looked)])

@@ -1,17 +1,12 @@
 """Stepping by buttons, keys, listing, chart, address and links, with a pointer or by the keyboard alone."""
 
-import re
-
 from selenium.webdriver.common.action_chains import ActionChains
 from selenium.webdriver.common.keys import Keys
-from selenium.webdriver.support.ui import Select
 
-from browser import STEPPING
-from listings import fields, steps
-from pages import CHAPTERS, INDEX, LONG, MADE, TEXTS, PageTest, run_of
+from listings import steps
+from pages import CHAPTERS, INDEX, LONG, MADE, PageTest, run_of
 
 FRONT = MADE / "examples/front.html"
-FULL = MADE / "generated/deep-2.html"
 LAST = 18
 
 
@@ -43,59 +38,9 @@ class Stepping(PageTest):
     def test_a_held_key(self):
         """The address is not changed more often than a browser lets it be."""
         self.browser.open(LONG[0])
-        self.browser.run(STEPPING + """
-            return (async () => {
-              for (let count = 0; count < 300; count += 1) {
-                press('ArrowRight');
-                await new Promise((done) => setTimeout(done));
-              }
-            })();""")
+        for _ in range(300):
+            self.browser.press(Keys.ARROW_RIGHT)
         self.is_at(301)
-
-    def test_a_presenters_remote(self):
-        """It sends PageDown and PageUp, or the blank, also where a line of the listing or a button was clicked before."""
-        self.browser.open(FRONT)
-        for key, step in [(Keys.PAGE_DOWN, 2), (Keys.SPACE, 3), (Keys.PAGE_UP, 2), (Keys.PAGE_UP, 1), (Keys.PAGE_UP, 1), (Keys.SPACE, 2)]:
-            self.browser.press(key)
-            self.is_at(step)
-        self.browser.click("#lines li[aria-posinset='5'] a")
-        for key, step in [(Keys.SPACE, 6), (Keys.PAGE_DOWN, 7)]:
-            self.browser.press(key)
-            self.is_at(step)
-        self.browser.click("#forward")
-        for key, step in [(Keys.SPACE, 9), (Keys.PAGE_DOWN, 10), (Keys.PAGE_UP, 9)]:
-            self.browser.press(key)
-            self.is_at(step)
-        self.assertEqual(self.browser.run("return scrollY"), 0)
-
-    def test_elsewhere_its_keys_scroll(self):
-        """Where the step is not in sight, as in a chapter's text, where it is asked about, and with Shift."""
-        self.browser.open(CHAPTERS[6])
-        self.browser.resize(1280, 500)
-        self.browser.run("scrollTo(0, 0)")
-        for key in (Keys.PAGE_DOWN, Keys.SPACE):
-            before = self.browser.run("return scrollY")
-            self.browser.press(key)
-            self.browser.until(lambda: self.browser.run("return scrollY") > before, "the page scrolls")
-            self.assertEqual(self.browser.read()["at"], 1)
-            self.browser.run("scrollTo(0, 0)")
-        self.browser.open(FRONT, "#7")
-        ActionChains(self.browser.driver).key_down(Keys.SHIFT).send_keys(Keys.SPACE).key_up(Keys.SHIFT).perform()
-        self.is_at(7)
-        self.browser.click("#ask")
-        self.browser.press(Keys.ARROW_RIGHT, Keys.SPACE)
-        self.assertTrue(self.browser.read()["asks"])
-
-    def test_the_blank_is_a_fields_own(self):
-        self.browser.open(FRONT, "#7")
-        self.browser.run("document.querySelector('#ask').focus()")
-        self.browser.press(Keys.SPACE)
-        self.assertTrue(self.browser.find("#ask").is_selected())
-        self.is_at(7)
-        self.browser.run("document.querySelector('summary').focus()")
-        self.browser.press(Keys.SPACE)
-        self.assertTrue(self.browser.run("return document.querySelector('.help').open"))
-        self.is_at(7)
 
     def test_keys_with_another_key_are_the_browsers(self):
         self.browser.open(FRONT)
@@ -152,110 +97,7 @@ class Stepping(PageTest):
         self.is_at(5)
 
 
-class Finding(PageTest):
-    """In a long run: the next refusal, the next step of a tenant, the next step of a request."""
-
-    def matching(self, page, holds):
-        return [number for number, step in enumerate(steps(run_of(page)), 1) if holds(fields(step.line), number)]
-
-    def check_round(self, wanted, button):
-        """From the first step through all of them, and from the beginning again."""
-        self.assertGreater(len(wanted), 1)
-        self.browser.click("#first")
-        self.browser.click(button)
-        found = self.browser.run("""
-            const [at, found] = ['#at', '#found'].map((part) => document.querySelector(part));
-            const seen = [[Number(at.value), found.innerText]];
-            while (seen.length < arguments[1]) {
-              document.querySelector(arguments[0]).click();
-              seen.push([Number(at.value), found.innerText]);
-            }
-            return seen;""", button, len(wanted) + 1)
-        again = [[wanted[0], f"step {wanted[0]:,}, from the beginning again"]]
-        self.assertEqual(found, [[number, f"step {number:,}"] for number in wanted] + again)
-
-    def found(self):
-        return self.browser.find("#found").text
-
-    def test_the_next_refusal(self):
-        self.browser.open(FULL)
-        self.check_round(self.matching(FULL, lambda line, _: line.answer.startswith("refused")), "#next-refusal")
-
-    def test_the_next_step_of_a_tenant(self):
-        """A tenant's own calls, those of the host that name it, and a Pick that promotes its request."""
-        self.browser.open(FULL)
-        typed = [shown["typed"].split() for shown in self.browser.read_all(len(steps(run_of(FULL))))]
-        for tenant in ("3", "10"):
-            def is_its(line, number, tenant=tenant):
-                return typed[number - 1][1:2] == [tenant] and line.call != "open" or f":{tenant}." in line.answer
-            Select(self.browser.find("#of-tenant")).select_by_visible_text(tenant)
-            self.check_round(self.matching(FULL, is_its), "#next-of-tenant")
-
-    def test_the_next_step_of_a_request(self):
-        self.browser.open(FULL)
-        typed = [shown["typed"] for shown in self.browser.read_all(len(steps(run_of(FULL))))]
-        for name, written in [("10.1", "10.1"), ("1.1", " 1 1 ")]:
-            tenant, serial = name.split(".")
-            calls = [f"{call} {tenant} {serial}" for call in ("finish", "recheck", "deliver", "evict", "cancel")]
-            wanted = self.matching(FULL, lambda line, number: typed[number - 1] in calls or re.search(rf":{re.escape(name)}(@|$)", line.answer))
-            self.browser.find("#named").clear()
-            self.browser.find("#named").send_keys(written)
-            self.check_round(wanted, "#next-named")
-            # By the keyboard the field keeps the focus, so that the next one is found by the same key.
-            self.browser.click("#first")
-            self.browser.find("#named").send_keys(Keys.ENTER)
-            self.browser.press(Keys.ENTER)
-            self.is_at(wanted[1])
-
-    def test_what_is_not_there(self):
-        self.browser.open(FULL, "#9")
-        for written, words in [("2.99", "no step is about 2.99"), ("two", "a request has a name such as 2.1"), ("", "a request has a name such as 2.1")]:
-            self.browser.find("#named").clear()
-            self.browser.find("#named").send_keys(written, Keys.ENTER)
-            self.assertEqual(self.found(), words)
-            self.is_at(9)
-        self.browser.open(MADE / "long/long-picks.html", "#500")
-        self.browser.click("#next-refusal")
-        self.assertEqual(self.found(), "no step is refused")
-
-    def test_keys_in_its_fields_are_theirs(self):
-        self.browser.open(FULL, "#9")
-        self.browser.find("#named").send_keys("2.1", Keys.ARROW_LEFT, Keys.HOME, Keys.END, Keys.SPACE, Keys.PAGE_DOWN)
-        self.is_at(9)
-        self.browser.run("document.querySelector('#of-tenant').focus()")
-        self.browser.press(Keys.ARROW_RIGHT, Keys.END, Keys.HOME)
-        self.is_at(9)
-
-    def test_what_is_still_to_be_asked_is_not_told(self):
-        self.browser.open(FULL, "#70")
-        self.browser.click("#ask")
-        known = self.matching(FULL, lambda line, number: line.answer.startswith("refused") and number <= 70)
-        self.browser.click("#next-refusal")
-        self.assertEqual((self.browser.read()["at"], self.found()), (known[0], f"step {known[0]}, from the beginning again"))
-        self.browser.find("#named").send_keys("14.9", Keys.ENTER)
-        self.assertEqual(self.found(), "no step is about 14.9 up to step 70")
-
-    def test_a_short_run_has_none(self):
-        self.browser.open(FRONT)
-        self.assertFalse(self.browser.find("#find").is_displayed())
-        self.browser.open(FULL)
-        self.assertTrue(self.browser.find("#find").is_displayed())
-
-
 class Addresses(PageTest):
-    def test_ask_in_the_address(self):
-        """The quiz is on, from the step that the address names."""
-        for address, step, score in [("?ask", 1, "asks from step 2 on"), ("?ask#7", 7, "asks from step 8 on"), ("?ask=1#18", 1, "asks from step 2 on")]:
-            self.browser.open(FRONT, address)
-            self.assertTrue(self.browser.find("#ask").is_selected())
-            shown = self.browser.read()
-            self.assertEqual((shown["at"], shown["score"]), (step, score))
-            self.browser.press(Keys.ARROW_RIGHT)
-            self.assertTrue(self.browser.read()["asks"])
-        self.browser.until(lambda: self.browser.driver.current_url.endswith("?ask=1#2"), "the address keeps both")
-        self.browser.open(FRONT, "?asked#7")
-        self.assertFalse(self.browser.find("#ask").is_selected())
-
     def test_a_link_opens_at_its_step(self):
         for address, step in [("#7", 7), ("#18", 18), ("#99", LAST), ("#0", 1), ("#x", 1), ("", 1)]:
             self.browser.open(FRONT, address)
@@ -320,52 +162,14 @@ class Addresses(PageTest):
             "return 0 <= top && bottom <= window.innerHeight", selector)
 
     def test_every_link_of_the_lesson_leads_somewhere(self):
-        """To a page, never to a text that a browser shows raw, and there to a step or to a heading."""
-        for page in [INDEX, *CHAPTERS, *TEXTS]:
+        for page in [INDEX, *CHAPTERS]:
             self.browser.open(page)
-            targets = self.browser.run("return [...document.querySelectorAll('a')].map((link) => link.getAttribute('href'))")
-            self.assertGreater(len(targets), 1)
-            for target in targets:
-                file, _, place = target.partition("#")
-                file = page.parent / (file.partition("?")[0] or page.name)
-                self.assertTrue(file.exists() and file.suffix == ".html", f"{page.name}: {target}")
-                if place.isdigit():
-                    self.assertLessEqual(int(place), len(steps(run_of(file))), f"{page.name}: {target}")
-                elif place:
-                    self.assertIn(f'id="{place}"', file.read_text(encoding="utf-8"), f"{page.name}: {target}")
-
-    def test_a_text_opens_as_a_page(self):
-        """From a chapter to the calls, from there to the host's page, at the part that the link names, and back to all chapters."""
-        self.browser.open(CHAPTERS[3])
-        self.browser.find("a[href='02-promotion.html']").click()
-        self.browser.until(lambda: self.browser.find("h1").text.startswith("Item 2"), "the note of the change is shown")
-        self.browser.open(INDEX)
-        self.browser.find("a[href='calls.html']").click()
-        self.browser.until(lambda: self.browser.find("h1").text == "The calls and their numbers", "the calls are shown")
-        self.assertGreater(len(self.browser.find_all("table")), 3)
-        self.browser.find("a[href='host.html#the-calls']").click()
-        self.browser.until(lambda: self.browser.find("h1").text == "Linking the manager into a host", "the host's page is shown")
-        top = self.browser.run("return document.getElementById('the-calls').getBoundingClientRect().top")
-        self.assertTrue(-1 <= top < 50, top)
-        self.browser.run("scrollTo(0, 0)")
-        self.browser.find(".ways a").click()
-        self.browser.until(lambda: self.browser.find_all(".chapters"), "the index is shown")
-
-    def test_the_index_tells_aims_and_lengths(self):
-        self.browser.open(INDEX)
-        entries = self.browser.find_all(".chapters > li")
-        self.assertEqual(len(entries), len(CHAPTERS))
-        for entry, page in zip(entries, CHAPTERS):
-            aim, length = (found.text for found in entry.find_elements("css selector", "p"))
-            self.assertRegex(aim, r"^Afterwards you can .*\.$")
-            self.assertRegex(length, r"^\d+ minutes; asked first$")
-            hrefs = [link.get_dom_attribute("href") for link in entry.find_elements("css selector", "a")]
-            self.assertEqual(hrefs, [page.name, f"{page.name}?ask"])
-        text = self.browser.find("main").text
-        for word in ("bin/", "lockrun", "make-lesson", "--page"):
-            self.assertNotIn(word, text)
-        entries[2].find_elements("css selector", "a")[1].click()
-        self.browser.until(lambda: self.browser.find_all("#ask") and self.browser.find("#ask").is_selected(), "the page asks")
+            for link in self.browser.find_all("a"):
+                target = link.get_dom_attribute("href")
+                file, _, step = target.partition("#")
+                self.assertTrue((page.parent / file).exists(), f"{page.name}: {target}")
+                if step and not file:
+                    self.assertLessEqual(int(step), len(steps(run_of(page))), f"{page.name}: {target}")
 
     def test_chapters_are_in_a_row(self):
         self.browser.open(INDEX)

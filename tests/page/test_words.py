@@ -2,6 +2,8 @@
 
 from pathlib import Path
 
+from selenium.webdriver.common.keys import Keys
+
 from listings import steps
 from pages import MADE, PageTest, run_of
 
@@ -17,8 +19,10 @@ class Words(PageTest):
     def said(self):
         """Of each step its line, and below it what is said of the call, its answer, its price and each Blocked request."""
         rows = []
-        for shown in self.browser.read_all(len(steps(run_of(PAGE)))):
+        for _ in steps(run_of(PAGE)):
+            shown = self.browser.read()
             waiting = [f"{card['name']}: {card['why']}" for card in shown["cards"] if card["why"]]
             told = [shown["call"].split(": ", 1)[1], shown["meaning"], *shown["price"].splitlines(), *waiting]
             rows += [shown["line"], *[f"    {words}" for words in told if words]]
+            self.browser.press(Keys.ARROW_RIGHT)
         return rows

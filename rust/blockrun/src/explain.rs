@@ -303,8 +303,7 @@ mod tests {
             assert!(told.contains("\nqueue: "));
             for length in [0, 1, BYTES - 1, BYTES + 1] {
                 let told = agreed(&vec![byte; length]);
-                let bytes = if length == 1 { "byte" } else { "bytes" };
-                let first = format!("not sound: the block has {} {}, not 2176\n", length, bytes);
+                let first = format!("not sound: the block has {} bytes, not 2176\n", length);
                 assert!(told.starts_with(&first));
                 assert_eq!(told.lines().count(), 2);
             }

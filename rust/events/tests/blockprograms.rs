@@ -125,9 +125,9 @@ fn blocksecond_says_why_a_block_is_not_sound() {
     assert_eq!(
         String::from_utf8_lossy(&out),
         "not sound: byte 0 is 00, not 11: it is part of the head of field 11\n\
-         \x20   the clause: heads, lengths and unused bytes are those of the layout\n\
+         \x20   the clause: heads, lengths and unused bytes are as above\n\
          not sound: the block has 0 bytes, not 2176\n\
-         \x20   the clause: heads, lengths and unused bytes are those of the layout\n"
+         \x20   the clause: heads, lengths and unused bytes are as above\n"
     );
 }
 

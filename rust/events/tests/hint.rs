@@ -102,14 +102,12 @@ fn nothing_of_what_may_be_run() {
 fn eventtext_says_it_beside() {
     let gzip = b"\x1f\x8b\x08\x00";
     let said = b"hint: this looks like a packed file: unpack it first (gunzip)\n";
-    for way in ["--either", "--bytes"] {
-        let output = run(env!("CARGO_BIN_EXE_eventtext"), &[way], gzip);
-        assert_eq!(output.status.code(), Some(0));
-        assert_eq!(
-            (&output.stdout[..], &output.stderr[..]),
-            (&gzip[..], &said[..])
-        );
-    }
+    let output = run(env!("CARGO_BIN_EXE_eventtext"), &["--either"], gzip);
+    assert_eq!(output.status.code(), Some(0));
+    assert_eq!(
+        (&output.stdout[..], &output.stderr[..]),
+        (&gzip[..], &said[..])
+    );
     let output = run(env!("CARGO_BIN_EXE_eventtext"), &["--either"], b"GIF89a");
     assert_eq!(output.status.code(), Some(1));
     assert_eq!(output.stdout, b"");

@@ -184,7 +184,7 @@ fn eventtext_knows_three_flags() {
     for arguments in wrong {
         assert_eq!(
             failed(eventtext(arguments, b"")),
-            "usage: eventtext [--text | --bytes | --either | --back]\n"
+            "usage: eventtext [--text | --either | --back]\n"
         );
     }
 }

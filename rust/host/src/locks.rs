@@ -217,12 +217,8 @@ impl<'a> Locks<'a> {
     /// use damsonpouch::{Answer, State};
     ///
     /// let begun = locks.begin(1, 0, &[3, 5], &[10]);
-    /// match begun.answer {
-    ///     Ok(Answer::Entry { state, tenant, serial, clash, .. }) => {
-    ///         assert_eq!((state, tenant, serial, clash), (State::Free, 1, 1, None));
-    ///     }
-    ///     other => panic!("not admitted: {:?}", other),
-    /// }
+    /// let free = Answer::Entry { state: State::Free, tenant: 1, serial: 1, clash: None };
+    /// assert_eq!(begun.answer, Ok(free));
     /// assert_eq!(begun.burnt, 8);
     /// assert_eq!(locks.begin(1, 2, &[7], &[]).to_string(), "waiting:1.2 4");
     /// assert_eq!(locks.begin(1, 0, &[10], &[]).to_string(), "blocked:1.3@10 4");

@@ -47,38 +47,7 @@ impl fmt::Display for Name {
 /// The answer of a call that was not refused. Its [`Display`](fmt::Display) is
 /// the listing's word, as `free:1.1`, and of a Begin that is Blocked, with the
 /// record, `blocked:2.1@10`.
-///
-/// A later version may have another answer, or tell more of an entry: a `match`
-/// on it has an arm for those, and a pattern of [`Entry`](Answer::Entry) ends in
-/// `..`. [`state`](Answer::state), [`name`](Answer::name) and
-/// [`clash`](Answer::clash) tell what `Entry` has without a pattern.
-///
-/// ```
-/// use damsonpouch::{Answer, State};
-///
-/// fn advice(answer: Answer) -> String {
-///     match answer {
-///         Answer::Entry { state: State::Free, .. } => String::from("run"),
-///         Answer::Entry { clash: Some(record), .. } => format!("wait for record {}", record),
-///         Answer::Entry { tenant, serial, .. } => format!("wait with {}.{}", tenant, serial),
-///         other => format!("no entry is named: {}", other),
-///     }
-/// }
-/// # let mut block = [0; damsonpouch::BLOCK_LENGTH];
-/// # let mut locks = damsonpouch::Locks::over(&mut block);
-/// # let _ = locks.open(&[4; 16]);
-/// # let _ = locks.grant(1, 40);
-///
-/// assert_eq!(locks.begin(1, 0, &[], &[10]).answer.map(advice), Ok(String::from("run")));
-/// let behind = locks.begin(1, 0, &[10], &[]);
-/// assert_eq!(behind.answer.map(advice), Ok(String::from("wait for record 10")));
-/// let remote = locks.begin(1, 1, &[], &[]);
-/// assert_eq!(remote.answer.map(advice), Ok(String::from("wait with 1.3")));
-/// let left = locks.finish(1, 1);
-/// assert_eq!(left.answer.map(advice), Ok(String::from("no entry is named: done")));
-/// ```
 #[derive(Clone, Copy, Debug, PartialEq, Eq, Hash)]
-#[non_exhaustive]
 pub enum Answer {
     /// Of Open and Grant.
     Ok,
@@ -91,7 +60,6 @@ pub enum Answer {
     /// An entry's state after the call, and its name: of Begin and Deliver, and
     /// of Recheck, Scan and Pick where they promote. A promoted entry is Waiting
     /// only if an answer is still due, else Free.
-    #[non_exhaustive]
     Entry {
         /// Its state after the call.
         state: State,
@@ -169,8 +137,7 @@ impl fmt::Display for Answer {
 }
 
 /// What a call gave: its answer or its refusal, and the units of fuel that it
-/// burnt. A refused call may have burnt some too. A later version may tell more
-/// beside them: the calls alone make one, and a pattern of it ends in `..`.
+/// burnt. A refused call may have burnt some too.
 ///
 /// Its [`Display`](fmt::Display) is the listing's two words: `free:1.1 4`,
 /// `refused:15 0`.
@@ -194,7 +161,6 @@ impl fmt::Display for Answer {
 /// ```
 #[derive(Clone, Copy, Debug, PartialEq, Eq, Hash)]
 #[must_use = "a call may have been refused"]
-#[non_exhaustive]
 pub struct Outcome {
     /// The answer, or why the call was refused.
     pub answer: Result<Answer, Refusal>,

@@ -64,9 +64,8 @@ pub enum Refusal {
 }
 
 impl Refusal {
-    /// Every refusal, in the order of the numbers: 1 to 15, without 5. Its type
-    /// does not say how many there are: a later version may have more.
-    pub const ALL: &'static [Refusal] = &[
+    /// Every refusal, in the order of the numbers: 1 to 15, without 5.
+    pub const ALL: [Refusal; 14] = [
         Refusal::NoSuchTenant,
         Refusal::Dry,
         Refusal::TooManyRecords,

@@ -3,8 +3,8 @@
 
 mod common;
 
-use common::{base, entry, gives, told, Call, Entry, Picture, Said, Told, BLOCKED, FREE, WAITING};
-use damsonpouch::{is_sound, Answer, Locks, Name, Refusal, State, BLOCK_LENGTH, TENANTS};
+use common::{base, entry, gives, Call, Entry, Picture, BLOCKED, FREE, WAITING};
+use damsonpouch::{is_sound, Answer, Locks, Name, Outcome, Refusal, State, BLOCK_LENGTH, TENANTS};
 
 #[test]
 fn open_makes_a_fresh_state_of_any_bytes() {
@@ -657,20 +657,18 @@ fn the_documents_listing() {
 fn answers_are_what_they_say() {
     let mut block = base().bytes();
     let mut locks = Locks::over(&mut block);
-    let due = |answer| Told { answer, burnt: 0 };
-    assert_eq!(told(locks.grant(1, 0)), due(Ok(Said::Ok)));
-    assert_eq!(told(locks.pick()), due(Ok(Said::Nothing)));
-    assert_eq!(told(locks.finish(1, 1)), due(Ok(Said::Done)));
-    assert_eq!(told(locks.deliver(2, 1)), due(Err(Refusal::NothingDue)));
-    let delivered = locks.deliver(1, 2);
-    let free = Said::Entry {
+    let told = |answer| Outcome { answer, burnt: 0 };
+    assert_eq!(locks.grant(1, 0), told(Ok(Answer::Ok)));
+    assert_eq!(locks.pick(), told(Ok(Answer::Nothing)));
+    assert_eq!(locks.finish(1, 1), told(Ok(Answer::Done)));
+    assert_eq!(locks.deliver(2, 1), told(Err(Refusal::NothingDue)));
+    let delivered = Answer::Entry {
         state: State::Free,
         tenant: 1,
         serial: 2,
         clash: None,
     };
-    assert_eq!(told(delivered), due(Ok(free)));
-    let delivered = delivered.answer.expect("an answer was due");
+    assert_eq!(locks.deliver(1, 2), told(Ok(delivered)));
     assert_eq!(delivered.state(), Some(State::Free));
     assert_eq!(delivered.clash(), None);
     let name = Name {
@@ -678,13 +676,13 @@ fn answers_are_what_they_say() {
         serial: 2,
     };
     assert_eq!(delivered.name(), Some(name));
-    assert_eq!(told(locks.evict(1, 2)), due(Ok(Said::Done)));
-    assert_eq!(told(locks.evict(1, 2)), due(Err(Refusal::NoSuchEntry)));
-    let cancelled = Told {
-        answer: Ok(Said::Done),
+    assert_eq!(locks.evict(1, 2), told(Ok(Answer::Done)));
+    assert_eq!(locks.evict(1, 2), told(Err(Refusal::NoSuchEntry)));
+    let cancelled = Outcome {
+        answer: Ok(Answer::Done),
         burnt: 1,
     };
-    assert_eq!(told(locks.cancel(2, 1)), cancelled);
+    assert_eq!(locks.cancel(2, 1), cancelled);
     assert_eq!(name.to_string(), "1.2");
     assert_eq!((Answer::Still.state(), Answer::Still.name()), (None, None));
     assert_eq!(Answer::Still.clash(), None);
@@ -692,14 +690,14 @@ fn answers_are_what_they_say() {
 }
 
 /// A Begin that is Blocked, a Recheck that leaves it so, and a refusal that
-/// burns, in every part; and `told` sees each part by itself.
+/// burns, in every part.
 #[test]
 fn outcomes_in_every_part() {
     let mut block = base().bytes();
     let mut locks = Locks::over(&mut block);
-    let begun = told(locks.begin(1, 2, &[12, 255], &[]));
-    let due = |state, tenant, serial, clash, burnt| Told {
-        answer: Ok(Said::Entry {
+    let begun = locks.begin(1, 2, &[12, 255], &[]);
+    let due = |state, tenant, serial, clash, burnt| Outcome {
+        answer: Ok(Answer::Entry {
             state,
             tenant,
             serial,
@@ -708,29 +706,19 @@ fn outcomes_in_every_part() {
         burnt,
     };
     assert_eq!(begun, due(State::Blocked, 1, 3, Some(12), 6));
-    for other in [
-        due(State::Waiting, 1, 3, Some(12), 6),
-        due(State::Blocked, 2, 3, Some(12), 6),
-        due(State::Blocked, 1, 4, Some(12), 6),
-        due(State::Blocked, 1, 3, Some(255), 6),
-        due(State::Blocked, 1, 3, None, 6),
-        due(State::Blocked, 1, 3, Some(12), 7),
-    ] {
-        assert_ne!(begun, other);
-    }
     // no other call tells a record
-    let delivered = told(locks.deliver(1, 3));
+    let delivered = locks.deliver(1, 3);
     assert_eq!(delivered, due(State::Blocked, 1, 3, None, 0));
-    let still = Told {
-        answer: Ok(Said::Still),
+    let still = Outcome {
+        answer: Ok(Answer::Still),
         burnt: 3,
     };
-    assert_eq!(told(locks.recheck(1, 3)), still);
-    let refused = Told {
+    assert_eq!(locks.recheck(1, 3), still);
+    let refused = Outcome {
         answer: Err(Refusal::WrongState),
         burnt: 1,
     };
-    assert_eq!(told(locks.finish(1, 3)), refused);
+    assert_eq!(locks.finish(1, 3), refused);
 }
 
 /// A block is the whole state: a copy of it, lent from elsewhere, goes on where

@@ -4,8 +4,8 @@
 
 mod common;
 
-use common::{told, Call, Said, Told};
-use damsonpouch::{held, is_sound, Held, Locks, Refusal, State, BLOCK_LENGTH};
+use common::Call;
+use damsonpouch::{held, is_sound, Answer, Held, Locks, Outcome, Refusal, State, BLOCK_LENGTH};
 use std::cell::Cell;
 use std::panic::{catch_unwind, AssertUnwindSafe};
 
@@ -110,11 +110,11 @@ fn unknown(reply: Reply) {
 
 /// None of the ten calls panics, and each gives that.
 #[track_caller]
-fn known(reply: Reply, answer: Result<Said, Refusal>) {
+fn known(reply: Reply, answer: Result<Answer, Refusal>) {
     REPLY.with(|next| next.set(reply));
     let burnt = reply.burnt;
     for call in CALLS {
-        assert_eq!(given(call).map(told), Ok(Told { answer, burnt }));
+        assert_eq!(given(call), Ok(Outcome { answer, burnt }));
     }
 }
 
@@ -164,10 +164,10 @@ fn a_reply_that_is_not_known_panics() {
 
 #[test]
 fn a_reply_that_is_known_does_not() {
-    for (kind, said) in (0..).zip([Said::Ok, Said::Done, Said::Still, Said::Nothing]) {
+    for (kind, said) in (0..).zip([Answer::Ok, Answer::Done, Answer::Still, Answer::Nothing]) {
         known(plain(kind, 1_089), Ok(said));
     }
-    for refusal in Refusal::ALL {
+    for refusal in &Refusal::ALL {
         known(refused(refusal.number(), 9), Err(*refusal));
     }
     let states = [State::Free, State::Waiting, State::Blocked];
@@ -177,7 +177,7 @@ fn a_reply_that_is_known_does_not() {
             _ => &[None],
         };
         for &clash in clashes {
-            let said = Said::Entry {
+            let said = Answer::Entry {
                 state,
                 tenant: 16,
                 serial: 65_535,

@@ -26,9 +26,9 @@ fn charged(number: u8, call: Call) {
 
 #[test]
 fn numbers_and_meanings() {
-    let numbers: Vec<u8> = Refusal::ALL.iter().map(|each| each.number()).collect();
-    assert_eq!(numbers, [1, 2, 3, 4, 6, 7, 8, 9, 10, 11, 12, 13, 14, 15]);
-    for refusal in Refusal::ALL {
+    let numbers = [1, 2, 3, 4, 6, 7, 8, 9, 10, 11, 12, 13, 14, 15];
+    assert_eq!(Refusal::ALL.map(Refusal::number), numbers);
+    for refusal in &Refusal::ALL {
         assert_eq!(Refusal::from_number(refusal.number()), Some(*refusal));
         assert_eq!(refusal.to_string(), refusal.meaning());
         let error: Box<dyn std::error::Error> = Box::new(*refusal);

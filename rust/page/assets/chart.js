@@ -1,38 +1,33 @@
 // The whole run: a bar for each request from its admission to its leaving, in the rows of its tenant's places, and below them
 // the fuel of each tenant. What is true after a step stands in that step's column.
 
-// Lengths are for letters of the usual size, and go with them.
 const GUTTER = 36; // left of the columns, for the tenants' numbers
 const BARS_HEIGHT = 320; // at most, unless the rows would be too thin to see
 const FUEL_HEIGHT = 110;
 const BELOW = 22; // for the steps' numbers
 
-const chart = { plot: null, cursor: null, cover: null, width: 0, size: 1, gutter: GUTTER };
+const chart = { plot: null, cursor: null, cover: null, width: 0 };
 
 function columnStart(at) {
-  return chart.gutter + ((at - 1) * (chart.width - chart.gutter)) / last;
+  return GUTTER + ((at - 1) * (chart.width - GUTTER)) / last;
 }
 
 // Draws the chart as wide as its place is.
 function drawChart() {
   const { requests, fuel } = wholeRun();
   const place = byId("drawing");
-  const size = letterSize();
-  Object.assign(chart, { width: place.clientWidth, size, gutter: GUTTER * size });
-  const rows = tenantRows(requests);
-  const rowHeight = Math.max(6, Math.min(20, Math.round(BARS_HEIGHT / Math.max(1, rows.count)))) * size;
-  const fuelTop = rows.count * rowHeight + 20 * size;
-  const height = fuelTop + (FUEL_HEIGHT + 4) * size;
-  const whole = height + BELOW * size;
+  chart.width = place.clientWidth;
+  const rows = rowsOf(requests);
+  const rowHeight = Math.max(6, Math.min(20, Math.round(BARS_HEIGHT / Math.max(1, rows.count))));
+  const fuelTop = rows.count * rowHeight + 20;
+  const height = fuelTop + FUEL_HEIGHT + 4;
   const top = (row) => row * rowHeight + 4;
-  const numbers = [...rows.first].map(([tenant, row]) => tick(`t${tenant}`, chart.gutter - 6, top(row) + rowHeight * 0.7));
+  const numbers = [...rows.first].map(([tenant, row]) => tick(`t${tenant}`, GUTTER - 6, top(row) + rowHeight * 0.7));
   const bars = requests.map((request) => bar(request, top(rows.first.get(request.tenant) + request.row), rowHeight - 3));
   chart.cursor = svgElement("rect", { class: "cursor", y: 0, height });
   chart.cover = svgElement("rect", { class: "cover", y: 0, height });
-  // On paper it is as wide as that is.
-  const view = `0 0 ${chart.width} ${whole}`;
-  chart.plot = svgElement("svg", { width: chart.width, height: whole, viewBox: view, "aria-hidden": "true" },
-    patterns(), ...numbers, ...stepNumbers(height + 14 * size), ...bars, ...fuelLines(fuel, fuelTop), chart.cover, chart.cursor);
+  chart.plot = svgElement("svg", { width: chart.width, height: height + BELOW, "aria-hidden": "true" },
+    patterns(), ...numbers, ...stepNumbers(height + 14), ...bars, ...fuelLines(fuel, fuelTop), chart.cover, chart.cursor);
   place.replaceChildren(chart.plot);
   thinOut(chart.plot.querySelectorAll(".tick, .number"));
   showLegend(fuel);
@@ -48,7 +43,7 @@ function thinOut(numbers) {
 }
 
 // The rows of the tenants, each as many as it had places in use at once.
-function tenantRows(requests) {
+function rowsOf(requests) {
   const most = new Map();
   for (const { tenant, row } of requests) most.set(tenant, Math.max(most.get(tenant) || 0, row + 1));
   const rows = { count: 0, first: new Map() };
@@ -65,14 +60,14 @@ function tick(words, x, y) {
 
 // Numbers below the columns, as many as there is room for, in round distances.
 function stepNumbers(y) {
-  const room = (chart.width - chart.gutter) / (48 * chart.size);
+  const room = (chart.width - GUTTER) / 48;
   const wanted = last / room;
   const power = 10 ** Math.floor(Math.log10(Math.max(1, wanted)));
   const distance = [1, 2, 5, 10].map((factor) => factor * power).find((found) => found >= wanted) || 1;
   const numbers = [];
   for (let at = distance; at <= last; at += distance) numbers.push(at);
   return numbers.map((at) => {
-    const number = tick(grouped(at), (columnStart(at) + columnStart(at + 1)) / 2, y);
+    const number = tick(`${at}`, (columnStart(at) + columnStart(at + 1)) / 2, y);
     number.classList.add("below");
     return number;
   });
@@ -90,16 +85,16 @@ function patterns() {
 }
 
 function bar({ name, from, to, states }, y, height) {
-  const told = states.map(([at, state]) => `${WORD[state]} from step ${grouped(at)}`).join(", ");
-  const gone = to > last ? "" : `, gone at step ${grouped(to)}`;
+  const told = states.map(([at, state]) => `${WORD[state]} from step ${at}`).join(", ");
+  const gone = to > last ? "" : `, gone at step ${to}`;
   const made = svgElement("g", { class: "request", "data-name": name }, svgElement("title", {}, `${name}: ${told}${gone}`));
   states.forEach(([at, state], part) => {
     const end = part + 1 < states.length ? states[part + 1][0] : to;
     const [x, right] = [columnStart(at), columnStart(end) - (end === to ? 1 : 0)];
     made.append(svgElement("rect", { class: state, x, y, width: Math.max(0.7, right - x), height }));
   });
-  if (columnStart(to) - columnStart(from) > 11 * chart.size * name.length && height > 10 * chart.size) {
-    made.append(svgElement("text", { class: "inside", x: columnStart(from) + 4, y: y + height / 2 + 4 * chart.size }, name));
+  if (columnStart(to) - columnStart(from) > 11 * name.length && height > 10) {
+    made.append(svgElement("text", { class: "inside", x: columnStart(from) + 4, y: y + height / 2 + 4 }, name));
   }
   return made;
 }
@@ -107,7 +102,7 @@ function bar({ name, from, to, states }, y, height) {
 // A line for each tenant, with its number where it first has fuel, if ever and if there is room: the legend names them all.
 function fuelLines(fuel, top) {
   const most = [...fuel.values()].flat().reduce((high, [, left]) => Math.max(high, left), 1);
-  const height = (left) => top + FUEL_HEIGHT * chart.size * (1 - left / most);
+  const height = (left) => top + FUEL_HEIGHT * (1 - left / most);
   const line = ([tenant, noted]) => {
     const parts = noted.map(([at, left], part) => {
       const end = part + 1 < noted.length ? noted[part + 1][0] : last + 1;
@@ -117,10 +112,9 @@ function fuelLines(fuel, top) {
   };
   const number = ([tenant, noted]) => noted.filter(([, left]) => left > 0).slice(0, 1).map(([at, left]) =>
     svgElement("text", { class: `number tenant-${tenant}`, x: columnStart(at) + 2, y: height(left) - 3 }, `t${tenant}`));
-  const axis = svgElement("path", { class: "axis", d: `M${chart.gutter} ${height(0)}H${chart.width}` });
-  // The most fuel is a number that may be too long for the gutter: it stands above its height, from the border on.
-  const mostTick = svgElement("text", { class: "tick most", x: 0, y: height(most) - 4 * chart.size }, grouped(most));
-  const ticks = [tick("0", chart.gutter - 6, height(0) + 4 * chart.size), mostTick];
+  const axis = svgElement("path", { class: "axis", d: `M${GUTTER} ${height(0)}H${chart.width}` });
+  const short = most < 100000 ? `${most}` : most.toExponential(0).replace("e+", "e");
+  const ticks = [tick("0", GUTTER - 6, height(0) + 4), tick(short, GUTTER - 6, height(most) + 6)];
   return [axis, ...ticks, ...[...fuel].map(line), ...[...fuel].flatMap(number)];
 }
 
@@ -147,14 +141,14 @@ function markChart() {
 
 function chartWords() {
   const { requests } = wholeRun();
-  const gone = grouped(requests.filter(({ to }) => to <= last).length);
+  const gone = requests.filter(({ to }) => to <= last).length.toLocaleString("en");
   const told = `${counted(requests.length, "request")} admitted, ${gone} gone at the end.`;
   const parts = "Above, a bar for each request, in the rows of its tenant's places; below, the fuel of each tenant.";
-  return `${parts} ${hiddenStep() > last ? told : "What comes is covered."}`;
+  return `${parts} ${hiddenStep() > last ? told : "What comes is covered."} Click to go to a step.`;
 }
 
 // The step whose column is under a click; left of the columns, none.
 function stepUnder(event) {
-  const across = event.clientX - chart.plot.getBoundingClientRect().left - chart.gutter;
-  return across < 0 ? shown : Math.floor((across * last) / (chart.width - chart.gutter)) + 1;
+  const across = event.clientX - chart.plot.getBoundingClientRect().left - GUTTER;
+  return across < 0 ? shown : Math.floor((across * last) / (chart.width - GUTTER)) + 1;
 }

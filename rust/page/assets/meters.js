@@ -10,6 +10,8 @@ function showTanks({ tanks, queue }, named, asking) {
   const title = known.length > 0 ? "Tanks and places" : "No tenant has a place or fuel";
   byId("tanks-name").textContent = asking ? `${title} before the call` : title;
   byId("tanks").replaceChildren(...known.map((tank) => tankItem(tank, queue, tank.tenant === named)));
+  const marked = byId("tanks").querySelector(".touched");
+  if (marked) bringIntoSight(byId("tanks"), marked.offsetTop, marked.offsetHeight);
 }
 
 function tankItem({ tenant, share, granted, burnt }, queue, touched) {
@@ -17,7 +19,7 @@ function tankItem({ tenant, share, granted, burnt }, queue, touched) {
   const held = queue.filter((entry) => entry.tenant === tenant).length;
   const part = granted === 0 ? 0 : (100 * left) / granted;
   const seats = Array.from({ length: share }, (_, at) => element("span", { class: at < held ? "seat held" : "seat" }));
-  const number = (name, value) => element("span", { class: name }, `${name} `, element("b", {}, grouped(value)));
+  const number = (name, value) => element("span", { class: name }, `${name} `, element("b", {}, value.toLocaleString("en")));
   return element("li", { class: touched ? "tank touched" : "tank", "data-tenant": tenant },
     element("span", { class: "tenant" }, `tenant ${tenant}`), " ",
     element("span", { class: "fuel", "aria-hidden": "true" }, element("span", { class: "full", style: `width: ${part}%` })), " ",
@@ -43,20 +45,15 @@ function showCounters(queue, touched, asking) {
   showCounter("cs", "Cs, how many read it", queue.flatMap(({ reads }) => reads), touched.reads);
 }
 
-// Most cells stay as they are from step to step, and are left alone.
-function showCell(cell, count, touched) {
-  const title = `record ${cell.dataset.record}: ${count}`;
-  cell.classList.toggle("touched", touched);
-  if (cell.title === title) return;
-  cell.title = title;
-  cell.textContent = count === 0 ? "" : `${count}`;
-  cell.classList.toggle("raised", count > 0);
-}
-
 function showCounter(id, name, records, touched) {
   const counts = new Array(RECORDS).fill(0);
   for (const record of records) counts[record] += 1;
-  grids[id].forEach((cell, record) => showCell(cell, counts[record], touched.includes(record)));
+  grids[id].forEach((cell, record) => {
+    const count = counts[record];
+    cell.textContent = count === 0 ? "" : `${count}`;
+    cell.className = `cell${count > 0 ? " raised" : ""}${touched.includes(record) ? " touched" : ""}`;
+    cell.title = `record ${record}: ${count}`;
+  });
   const raised = counts.flatMap((count, record) => (count > 0 ? [`${record}=${count}`] : []));
   const more = raised.length - COUNTERS_SAID;
   const words = raised.slice(0, COUNTERS_SAID).join(" ") + (more > 0 ? ` and ${more} more` : "");

@@ -2,9 +2,7 @@
 
 const NAMED_AT_MOST = 4; // a card with more conflicts has their names folded away
 const LABELLED_AT_MOST = 12; // with more lines than this, those of the card that the call is about alone are labelled
-const LEAST_REACH = 16; // and so where the lines stand closer than this, for letters of the usual size
-const MOST_REACH = 34; // how far a line swings out for each card that it passes
-const ANCHOR = 20; // below the top of its card a line begins and ends
+const LEAST_REACH = 16; // and so where the lines stand closer than this
 
 const cards = byId("cards");
 const conflictLines = byId("conflicts");
@@ -17,28 +15,24 @@ function showQueue(state, looks, touched, asking) {
   const named = `The queue${asking ? " before the call" : ""}`;
   byId("queue-name").textContent =
     queue.length === 0 ? `${named} is empty` : `${named}: ${counted(queue.length, "request")}, front first`;
+  cards.replaceChildren(...queue.map((entry, place) => card(entry, place, place < looks)));
   shownConflicts = [];
-  placeCards(queue.map((entry, place) => {
-    const made = card(entry, place, place < looks);
-    made.classList.toggle("touched", entry.name === touched);
-    if (entry.state !== "blocked") return made;
+  queue.forEach((entry, place) => {
+    if (entry.state !== "blocked") return;
     const { ahead, behind } = conflictsIn(queue, entry);
+    if (!asking) cards.children[place].append(why(entry, state, ahead, behind));
     for (const { other, records } of ahead) {
       shownConflicts.push({ from: place, to: queue.indexOf(other), names: [entry.name, other.name], records });
     }
-    if (!asking) made.append(why(entry, state, ahead, behind));
-    return made;
-  }));
+  });
+  const place = queue.findIndex(({ name }) => name === touched);
+  if (place >= 0) markCard(cards.children[place]);
+  drawConflicts();
 }
 
-// A card that says what the one in its place says already is not put in, so that the browser lays out the others alone.
-function placeCards(made) {
-  made.forEach((card, place) => {
-    const there = cards.children[place];
-    if (!there) cards.append(card);
-    else if (!there.isEqualNode(card)) there.replaceWith(card);
-  });
-  while (cards.children.length > made.length) cards.lastElementChild.remove();
+function markCard(marked) {
+  marked.classList.add("touched");
+  bringIntoSight(byId("queue"), marked.offsetTop, marked.offsetHeight);
 }
 
 const ORDINALS = { 1: "st", 2: "nd", 3: "rd" };
@@ -82,20 +76,15 @@ function why(entry, state, ahead, behind) {
 
 // A curve for each conflict, from the card that waits to the one ahead; the further apart the two, the wider it swings.
 function drawConflicts() {
-  const size = letterSize();
   const width = conflictLines.clientWidth;
-  const height = cards.offsetHeight;
-  const anchors = [...cards.children].map(({ offsetTop }) => offsetTop + ANCHOR * size);
-  const touched = [...cards.children].findIndex(({ classList }) => classList.contains("touched"));
+  conflictLines.style.height = `${cards.offsetHeight}px`;
   const widest = Math.max(1, ...shownConflicts.map(({ from, to }) => from - to));
-  const reach = Math.min(MOST_REACH * size, (width - 16 * size) / 0.75 / widest);
-  const many = shownConflicts.length > LABELLED_AT_MOST || reach < LEAST_REACH * size;
-  const courses = shownConflicts.map(({ from, to, names, records }) =>
-    ({ names, records, own: from === touched, start: anchors[from], end: anchors[to], swing: 14 * size + reach * (from - to) }));
-  const labels = courses.filter(({ own }) => own || !many).map((course) => conflictLabel(course, width));
-  conflictLines.style.height = `${height}px`;
+  const reach = Math.min(34, (width - 16) / 0.75 / widest);
+  const many = shownConflicts.length > LABELLED_AT_MOST || reach < LEAST_REACH;
+  const drawn = shownConflicts.map((conflict) => curve(conflict, width, 14 + reach * (conflict.from - conflict.to)));
+  const labels = drawn.filter(({ own }) => own || !many).map(({ label }) => label);
   conflictLines.classList.toggle("many", many);
-  conflictLines.lastElementChild.replaceChildren(...courses.map((course) => conflictLine(course, width)), ...labels);
+  conflictLines.replaceChildren(...drawn.flatMap(({ line, head }) => [line, head]), ...labels);
   setApart(labels, width);
 }
 
@@ -111,15 +100,18 @@ function setApart(labels, width) {
   }
 }
 
-function conflictLine({ names, own, start, end, swing }, width) {
+function curve({ from, to, names, records }, width, swing) {
+  const [start, end] = [from, to].map((place) => cards.children[place].offsetTop + 20);
+  const own = cards.children[from].classList.contains("touched");
   const out = width - swing;
-  const path = `M${width} ${start}C${out} ${start} ${out} ${end} ${width - 5} ${end}`;
-  return svgElement("path", { class: own ? "conflict own" : "conflict", "data-from": names[0], "data-to": names[1], d: path });
-}
-
-function conflictLabel({ records, start, end, swing }, width) {
   const label = records.length > 1 ? `${records[0]}…` : `${records[0]}`;
-  return svgElement("text", { class: "on", x: width - 0.75 * swing, y: (start + end) / 2 + 4 }, label);
+  const path = `M${width} ${start}C${out} ${start} ${out} ${end} ${width - 5} ${end}`;
+  return {
+    own,
+    line: svgElement("path", { class: own ? "conflict own" : "conflict", "data-from": names[0], "data-to": names[1], d: path }),
+    head: svgElement("path", { class: "head", d: `M${width} ${end}l-7 -4v8z` }),
+    label: svgElement("text", { class: "on", x: width - 0.75 * swing, y: (start + end) / 2 + 4 }, label),
+  };
 }
 
 // The card under the pointer keeps its lines, and the others fade.

@@ -46,7 +46,7 @@ function findTellings() {
 }
 
 function addTelling(part, step) {
-  const word = element("p", { class: "untold" }, `Told after step ${grouped(step)}.`);
+  const word = element("p", { class: "untold" }, `Told after step ${step}.`);
   part.before(word);
   tellings.push({ part, step, word });
 }
@@ -114,12 +114,11 @@ function judge(at, chosen) {
   if (answerRight) quiz.answers += 1;
   if (priceRight) quiz.prices += 1;
   const verdict = (isRight, said) => (isRight ? "right" : `not ${said}`);
-  quiz.verdict = `Answer: ${verdict(answerRight, chosen.words)}. Units: ${verdict(priceRight, grouped(chosen.units))}.`;
+  quiz.verdict = `Answer: ${verdict(answerRight, chosen.words)}. Units: ${verdict(priceRight, chosen.units)}.`;
 }
 
 function scoreWords() {
   if (!quiz.on) return "";
-  if (quiz.asked === 0) return `asks from step ${grouped(quiz.known + 1)} on`;
-  const rights = [[quiz.answers, "answer"], [quiz.prices, "price"]];
-  return `right: ${rights.map(([right, thing]) => `${grouped(right)} of ${counted(quiz.asked, thing)}`).join(", ")}`;
+  if (quiz.asked === 0) return `asks from step ${quiz.known + 1} on`;
+  return `right: ${quiz.answers} of ${counted(quiz.asked, "answer")}, ${quiz.prices} of ${counted(quiz.asked, "price")}`;
 }

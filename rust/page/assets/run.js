@@ -26,16 +26,6 @@ function filled(made, attributes, children) {
   return made;
 }
 
-// A number as the page says it. What is quoted stays as it is: a line of the listing, a call as it is typed, a name.
-function grouped(number) {
-  return Number(number).toLocaleString("en");
-}
-
-// How large the reader's letters are, where 1 is the usual size: what is drawn goes with them.
-function letterSize() {
-  return parseFloat(getComputedStyle(document.documentElement).fontSize) / 16;
-}
-
 // Scrolls a box, and nothing around it, so that a part of it can be seen.
 function bringIntoSight(box, top, height) {
   if (top < box.scrollTop) box.scrollTop = top - height / 2;

@@ -17,20 +17,10 @@ function show(wanted) {
   showQueue(after, asking ? 0 : looksOf(step), touched.name, asking);
   showTanks(after, call && call.tenant, asking);
   showCounters(after.queue, touched, asking);
-  hideTellings();
-  placeShown();
-  markChart();
-  keepAddress();
-}
-
-// What is measured comes behind all that is written, so that the page is laid out once.
-function placeShown() {
-  for (const box of [byId("queue"), byId("tanks")]) {
-    const marked = box.querySelector(".touched");
-    if (marked) bringIntoSight(box, marked.offsetTop, marked.offsetHeight);
-  }
   showListing();
-  drawConflicts();
+  markChart();
+  hideTellings();
+  keepAddress();
 }
 
 function showBar() {
@@ -48,7 +38,7 @@ function showCall(step, call, asking) {
   const none = kind === "file" ? "The file is not read any further." : "There is no call here.";
   const words = call ? callWords(call) : none;
   const verdict = quiz.on && !asking && shown === quiz.known ? quiz.verdict : "";
-  byId("call").textContent = `Step ${grouped(shown)}: ${words}`;
+  byId("call").textContent = `Step ${shown}: ${words}`;
   byId("typed").textContent = typedWords(step.call || "");
   byId("question").hidden = !asking;
   byId("outcome").hidden = asking;
@@ -56,14 +46,8 @@ function showCall(step, call, asking) {
   byId("difference").textContent = step.difference ? `This line differs: ${step.difference}` : "";
   byId("verdict").hidden = verdict === "";
   byId("verdict").textContent = verdict;
-  const told = `Answer ${answer}, burnt ${fieldWords(burnt)}, left ${fieldWords(left)}.`;
-  const outcome = asking ? "What does it answer, and what does it burn?" : told;
-  byId("announced").textContent = [`Step ${grouped(shown)} of ${grouped(last)}.`, words, verdict, outcome].filter(Boolean).join(" ");
-}
-
-// A field of a line, of which a number is said as the page says numbers; `?` where there is none.
-function fieldWords(field) {
-  return /^\d+$/.test(field) ? grouped(field) : field || "?";
+  const outcome = asking ? "What does it answer, and what does it burn?" : `Answer ${answer}, burnt ${burnt}, left ${left}.`;
+  byId("announced").textContent = [`Step ${shown} of ${last}.`, words, verdict, outcome].filter(Boolean).join(" ");
 }
 
 const TYPED_AT_MOST = 200;
@@ -77,8 +61,8 @@ function typedWords(call) {
 function showAnswer(step, call, before, after) {
   const { answer, burnt, left } = fieldsOf(step);
   byId("answer").textContent = answer || "no answer";
-  byId("burnt").textContent = fieldWords(burnt);
-  byId("left").textContent = fieldWords(left);
+  byId("burnt").textContent = burnt || "?";
+  byId("left").textContent = left || "?";
   byId("whose").textContent = call && fuelOf(after, call.tenant) !== null ? ` in the tank of tenant ${call.tenant}` : "";
   // Where the answer is not the second program's, its state does not explain it.
   byId("meaning").textContent = step.difference ? "" : meaningOf(step, call, before, after);
@@ -89,25 +73,18 @@ function showAnswer(step, call, before, after) {
   byId("said").replaceChildren(...(said.length > 0 ? [element("h4", {}, "The file's comment"), ...said] : []));
 }
 
-const LOOKS_AT_MOST = 8; // a sum with more looks than these has its terms folded away
-
 function priceParts(step, call, before, after) {
   const { parts, besides } = step.difference ? { parts: [], besides: "" } : priceWords(step, call, before, after);
-  const said = besides ? [element("p", {}, besides)] : [];
+  const units = parts.map((part) => part.units);
+  const shownParts = [];
+  if (parts.length > 1) shownParts.push(element("p", { class: "sum" }, `${units.join(" + ")} = ${priceOf(step)}`));
+  if (parts.length > 0) {
+    const items = parts.map((part) => element("li", {}, element("b", {}, `${part.units}`), ` ${part.what}`));
+    shownParts.push(element("ol", {}, ...items));
+  }
+  if (besides) shownParts.push(element("p", {}, besides));
   const wrong = disagreements(step, call, after).map((words) => element("p", { class: "different" }, words));
-  return [...sumParts(parts, looksOf(step), grouped(priceOf(step))), ...said, ...wrong];
-}
-
-// The sum and its terms, each with what it was paid for.
-function sumParts(parts, looks, sum) {
-  if (parts.length === 0) return [];
-  const items = parts.map((part) => element("li", {}, element("b", {}, grouped(part.units)), ` ${part.what}`));
-  const terms = element("ol", {}, ...items);
-  if (parts.length === 1) return [terms];
-  const units = parts.map((part) => grouped(part.units));
-  if (looks <= LOOKS_AT_MOST) return [element("p", { class: "sum" }, `${units.join(" + ")} = ${sum}`), terms];
-  const folded = `${units.slice(0, -looks).join(" + ")} + ${counted(looks, "look")} = ${sum}`;
-  return [element("details", {}, element("summary", { class: "sum" }, folded), terms)];
+  return [...shownParts, ...wrong];
 }
 
 // What the page shows is held to the line: the sum to the units burnt, the tank to the fuel left.
@@ -115,9 +92,8 @@ function disagreements(step, call, after) {
   const { burnt, left } = fieldsOf(step);
   const fuel = call && fuelOf(after, call.tenant);
   const wrong = [];
-  const differs = (own, listed) => `${own}, and the listing has ${fieldWords(listed)}.`;
-  if (burnt !== `${priceOf(step)}`) wrong.push(differs(`The sum is ${grouped(priceOf(step))}`, burnt));
-  if (fuel !== null && left !== `${fuel}`) wrong.push(differs(`The tank has ${grouped(fuel)}`, left));
+  if (burnt !== `${priceOf(step)}`) wrong.push(`The sum is ${priceOf(step)}, and the listing has ${burnt}.`);
+  if (fuel !== null && left !== `${fuel}`) wrong.push(`The tank has ${fuel}, and the listing has ${left}.`);
   return wrong;
 }
 
@@ -165,24 +141,15 @@ function answered(chosen) {
 
 const KEYS = { ArrowLeft: () => shown - 1, ArrowRight: () => shown + 1, Home: () => 1, End: () => last };
 const LISTING_KEYS = { ArrowUp: KEYS.ArrowLeft, ArrowDown: KEYS.ArrowRight };
-// What a presenter's remote sends. Elsewhere than at a step these keys scroll the page.
-const REMOTE_KEYS = { PageUp: KEYS.ArrowLeft, PageDown: KEYS.ArrowRight, " ": KEYS.ArrowRight };
 
 // Keys that a field or the browser takes for itself are left to it.
 function onKey(event) {
-  const { key, target } = event;
-  const taken = target.closest("input:not([type=checkbox]), select") || (key === " " && target.closest("input, button, summary"));
+  const taken = event.target.closest("input:not([type=checkbox])");
   if (taken || event.altKey || event.ctrlKey || event.metaKey || event.shiftKey) return;
-  const wanted = KEYS[key] || (lines.contains(target) && LISTING_KEYS[key]) || (isAtStep() && REMOTE_KEYS[key]);
+  const wanted = KEYS[event.key] || (lines.contains(event.target) && LISTING_KEYS[event.key]);
   if (!wanted) return;
   event.preventDefault();
   go(wanted());
-}
-
-// Whether the step is in sight, and told: a question is answered first.
-function isAtStep() {
-  const { top, bottom } = byId("call").getBoundingClientRect();
-  return byId("question").hidden && top >= 0 && bottom <= window.innerHeight;
 }
 
 // A line that is opened elsewhere, in a tab of its own, is the browser's.
@@ -219,8 +186,6 @@ function listen() {
   lines.addEventListener("click", onLine);
   document.addEventListener("keydown", onKey);
   window.addEventListener("hashchange", followAddress);
-  window.addEventListener("beforeprint", beforePrint);
-  window.addEventListener("afterprint", afterPrint);
 }
 
 let laidOut = 0;
@@ -236,13 +201,6 @@ function layOut() {
   markChart();
 }
 
-// With `?ask` in the address the quiz is on, from the step that the address names.
-function followAsk() {
-  if (!new URLSearchParams(location.search).has("ask")) return;
-  byId("ask").checked = true;
-  onAsk();
-}
-
 function sayDifferent() {
   const different = [run, ...steps].filter(({ difference }) => difference).length;
   const told = `The second program differs from the proved listing in ${counted(different, "line")}, in red below.`;
@@ -251,7 +209,7 @@ function sayDifferent() {
 }
 
 function start() {
-  byId("count").textContent = grouped(last);
+  byId("count").textContent = last.toLocaleString("en");
   byId("at").max = last;
   byId("ask").checked = false;
   sayDifferent();
@@ -264,11 +222,9 @@ function start() {
   listen();
   show(1);
   followAddress();
-  followAsk();
   performance.mark("first view");
   // The chart follows the whole run, which the first view need not wait for.
   setTimeout(() => {
-    offerFinding();
     layOut();
     new ResizeObserver(layOut).observe(byId("run"));
     performance.mark("drawn");

@@ -35,14 +35,14 @@ function rowWords(kind, number) {
 const LISTED_AT_MOST = 20;
 
 function counted(number, thing) {
-  return `${grouped(number)} ${thing}${number === 1 ? "" : "s"}`;
+  return `${number.toLocaleString("en")} ${thing}${number === 1 ? "" : "s"}`;
 }
 
 // `7`, `7 and 9`, `7, 9 and 12`; of a long list the first ones.
 function listed(items, word = "and") {
   const shown = items.slice(0, LISTED_AT_MOST);
   const more = items.length - shown.length;
-  const parts = more > 0 ? [...shown, `${grouped(more)} more`] : shown;
+  const parts = more > 0 ? [...shown, `${more.toLocaleString("en")} more`] : shown;
   if (parts.length < 2) return parts.join("");
   return `${parts.slice(0, -1).join(", ")} ${word} ${parts[parts.length - 1]}`;
 }
@@ -135,7 +135,6 @@ function refusedBecause(call, number, before) {
   if (number === 10) return `${call.name} is not in the queue. `;
   if (number === 11) return `${call.name} is ${WORD[entry.state]}. `;
   if (number === 12) return `${call.name} ${entry.awaited === 0 ? "awaits no answer" : "has had all its answers"}. `;
-  if (number === 13) return `Tenant ${call.tenant} had ${counted(fuel, "unit")}, and would have ${grouped(fuel + call.amount)}. `;
   return "";
 }
 
@@ -251,7 +250,7 @@ function besideWords(step, call, before, after, parts) {
 function releaseWords(call) {
   const { from } = wholeRun().requests.find(({ name }) => name === call.name);
   const [, units] = steps[from - 1].bill.find(([word]) => word === "release");
-  return `To finish a Free request burns nothing: the release was paid at step ${grouped(from)}, with ${counted(units, "unit")}.`;
+  return `To finish a Free request burns nothing: the release was paid at step ${from}, with ${counted(units, "unit")}.`;
 }
 
 function cutShort(call, before, after, parts) {

@@ -6,16 +6,10 @@ use crate::steps::Run;
 
 const FRAME: &str = include_str!("../assets/frame.html");
 const RUN: &str = include_str!("../assets/run.html");
-/// The style of every page, and that of a run, which goes by the ids of its parts:
-/// a heading of a text may have one of these.
-const STYLE: &str = concat!(
-    include_str!("../assets/page.css"),
-    include_str!("../assets/text.css")
-);
-const RUN_STYLE: &str = include_str!("../assets/run.css");
+const STYLE: &str = include_str!("../assets/page.css");
 
 /// In this order: each uses what those before it declare.
-const SCRIPTS: [&str; 10] = [
+const SCRIPTS: [&str; 8] = [
     include_str!("../assets/run.js"),
     include_str!("../assets/words.js"),
     include_str!("../assets/listing.js"),
@@ -23,8 +17,6 @@ const SCRIPTS: [&str; 10] = [
     include_str!("../assets/meters.js"),
     include_str!("../assets/chart.js"),
     include_str!("../assets/quiz.js"),
-    include_str!("../assets/printing.js"),
-    include_str!("../assets/finding.js"),
     include_str!("../assets/stepping.js"),
 ];
 
@@ -35,21 +27,21 @@ pub struct Page<'a> {
     /// What stands before the run and behind it, as HTML.
     pub before: &'a str,
     pub after: &'a str,
-    /// The run with its name, in plain text; an index and a text have none.
+    /// The run with its name, in plain text; an index has none.
     pub run: Option<(&'a str, &'a Run)>,
 }
 
 impl Page<'_> {
     pub fn html(&self) -> String {
-        let (run, script, style) = match self.run {
-            Some((name, run)) => (shown(name), script(run), RUN_STYLE),
+        let (run, script) = match self.run {
+            Some((name, run)) => (shown(name), script(run)),
             None => Default::default(),
         };
         filled(
             FRAME,
             &[
                 ("title", &escaped(self.title)),
-                ("style", &[STYLE, style].concat()),
+                ("style", STYLE),
                 ("before", self.before),
                 ("run", &run),
                 ("after", self.after),

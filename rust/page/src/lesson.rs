@@ -1,27 +1,21 @@
-//! The lesson as pages: one for each chapter, with its run in it, an index, and
-//! the texts that it leads to.
+//! The lesson as pages: one for each chapter, with its run in it, and an index.
 
-use crate::html::Page;
-use crate::markdown::{inline, Block};
-use crate::prose::{prose, ways, OnPage, INDEX};
+use crate::html::{escaped, Page};
+use crate::markdown::{blocks, html, inline, Block, Names};
 use crate::steps::Run;
-use crate::texts::{Text, Texts, FOLDER};
 
-/// A chapter begins with a heading of this level and these words. What stands
-/// below another heading of this level is for whoever reads the text.
+/// A chapter begins with a heading of this level and these words.
 const CHAPTER_LEVEL: usize = 2;
 const CHAPTER: &str = "Chapter ";
-/// Its first paragraph says what it is for, and how long it takes.
-const AIM: &str = "**Aim.**";
-const MINUTES: &str = " minutes)";
 /// Its first command runs this example.
 const COMMAND: &str = "bin/lockrun --show examples/";
 const TEXT: &str = ".txt";
 /// The run stands before the paragraph that begins so: first the student says
 /// what will happen.
 const TOLD_AFTER: &str = "**What happens.**";
-/// Behind a chapter's file: its page asks before it tells.
-const ASKED: &str = "?ask";
+/// Where the lesson's text finds the pages.
+const FOLDER: &str = "lesson/";
+pub const INDEX: &str = "index.html";
 
 #[derive(Clone, Debug, PartialEq, Eq)]
 pub struct Lesson {
@@ -33,8 +27,6 @@ pub struct Lesson {
 #[derive(Clone, Debug, PartialEq, Eq)]
 pub struct Chapter {
     pub title: String,
-    pub aim: String,
-    pub minutes: usize,
     /// The example that it runs.
     pub example: String,
     /// Its page's file.
@@ -42,63 +34,40 @@ pub struct Chapter {
     text: Vec<Block>,
 }
 
-/// All the pages with their files. `read` gives the text at a path from the docs
-/// folder, `run` the run of an example; each may say why it cannot.
-pub fn pages(
-    read: impl Fn(&str) -> Result<String, String>,
-    run: impl Fn(&str) -> Result<Run, String>,
-) -> Result<Vec<(String, String)>, String> {
-    let texts = Texts::of(read)?;
-    let lesson = Lesson::of(texts.lesson())?;
-    let mut pages = vec![(INDEX.to_string(), lesson.index(&texts))];
-    for (at, chapter) in lesson.chapters.iter().enumerate() {
-        let page = lesson.page(at, &run(&chapter.example)?, &texts);
-        pages.push((chapter.file.clone(), page));
-    }
-    pages.extend(texts.pages());
-    let mut files: Vec<&str> = pages.iter().map(|(file, _)| &file[..]).collect();
-    files.sort_unstable();
-    match files.windows(2).find(|pair| pair[0] == pair[1]) {
-        Some(pair) => Err(format!("two pages would be {}", pair[0])),
-        None => Ok(pages),
-    }
-}
-
 impl Lesson {
-    /// The lesson of its text, or what is missing in it.
-    pub fn of(text: &Text) -> Result<Lesson, String> {
-        let mut intro = Vec::new();
-        let mut sections: Vec<(String, Vec<Block>)> = Vec::new();
-        for block in text.below().iter().cloned() {
-            match (block, sections.last_mut()) {
-                (Block::Heading(heading), _) if heading.level == CHAPTER_LEVEL => {
-                    sections.push((heading.text, Vec::new()))
+    /// The lesson of a text, or what is missing in it.
+    pub fn of(text: &str) -> Result<Lesson, String> {
+        let mut blocks = blocks(text).into_iter();
+        let title = match blocks.next() {
+            Some(Block::Heading(1, title)) => title,
+            _ => return Err(String::from("the lesson has no title")),
+        };
+        let mut lesson = Lesson {
+            title,
+            intro: Vec::new(),
+            chapters: Vec::new(),
+        };
+        for block in blocks {
+            match (block, lesson.chapters.last_mut()) {
+                (Block::Heading(CHAPTER_LEVEL, title), _) if title.starts_with(CHAPTER) => {
+                    lesson.chapters.push(Chapter::titled(title))
                 }
-                (block, Some((_, section))) => section.push(block),
-                (block, None) => intro.push(block),
+                (block, Some(chapter)) => chapter.text.push(block),
+                (block, None) => lesson.intro.push(block),
             }
         }
-        drop_link(&mut intro, INDEX)?;
-        let chapters = sections
-            .into_iter()
-            .filter(|(title, _)| title.starts_with(CHAPTER));
-        let chapters = (1..)
-            .zip(chapters)
-            .map(|(number, (title, text))| Chapter::of(number, title, text));
-        Ok(Lesson {
-            title: text.title.clone(),
-            intro,
-            chapters: chapters.collect::<Result<_, _>>()?,
-        })
+        drop_link(&mut lesson.intro, INDEX)?;
+        for (at, chapter) in lesson.chapters.iter_mut().enumerate() {
+            chapter.find_example(at + 1)?;
+            drop_link(&mut chapter.text, &chapter.file)?;
+        }
+        Ok(lesson)
     }
 
     /// The page of a chapter, from 0, with its run.
-    fn page(&self, at: usize, run: &Run, texts: &Texts) -> String {
+    pub fn page(&self, at: usize, run: &Run) -> String {
         let chapter = &self.chapters[at];
         let names = OnPage {
-            texts,
-            text: texts.lesson(),
-            page: &chapter.file,
             steps: run.steps.len(),
         };
         let told = chapter.text.iter().position(tells);
@@ -119,42 +88,36 @@ impl Lesson {
 
     /// The way to the index and to the chapters beside this one.
     fn ways(&self, at: usize) -> String {
-        let way = |word: &str, chapter: &Chapter| {
-            (chapter.file.clone(), format!("{}: {}", word, chapter.title))
+        let mut ways = vec![format!("<a href=\"{}\">All chapters</a>", INDEX)];
+        let mut way = |word: &str, chapter: Option<&Chapter>| {
+            ways.extend(chapter.map(|chapter| {
+                let title = escaped(&chapter.title);
+                format!("<a href=\"{}\">{}: {}</a>", chapter.file, word, title)
+            }))
         };
-        let before = at
-            .checked_sub(1)
-            .map(|at| way("Before", &self.chapters[at]));
-        let next = self
-            .chapters
-            .get(at + 1)
-            .map(|chapter| way("Next", chapter));
-        let others: Vec<(String, String)> = before.into_iter().chain(next).collect();
-        ways(&others)
+        way("Before", at.checked_sub(1).map(|at| &self.chapters[at]));
+        way("Next", self.chapters.get(at + 1));
+        let ways = ways.join("\n");
+        format!(
+            "<nav class=\"ways\" aria-label=\"Chapters\">\n{}\n</nav>\n",
+            ways
+        )
     }
 
-    fn index(&self, texts: &Texts) -> String {
-        let names = OnPage {
-            texts,
-            text: texts.lesson(),
-            page: INDEX,
-            steps: 0,
+    pub fn index(&self) -> String {
+        let names = OnPage { steps: 0 };
+        let entry = |chapter: &Chapter| {
+            let title = inline(&chapter.title, &names);
+            format!("<li><a href=\"{}\">{}</a></li>\n", chapter.file, title)
         };
-        let entries: String = self
-            .chapters
-            .iter()
-            .map(|chapter| chapter.entry(&names))
-            .collect();
-        let whole = &texts.lesson().file;
+        let entries: String = self.chapters.iter().map(entry).collect();
         let page = Page {
             title: &self.title,
             before: &format!(
-                "<h1>{}</h1>\n{}<nav aria-label=\"Chapters\">\n<ol class=\"chapters\">\n{}</ol>\n\
-                 <p><a href=\"{}\">The whole lesson as one text</a></p>\n</nav>\n",
+                "<h1>{}</h1>\n{}<nav aria-label=\"Chapters\">\n<ol class=\"chapters\">\n{}</ol>\n</nav>\n",
                 inline(&self.title, &names),
                 prose("prose", &self.intro, &names),
-                entries,
-                whole
+                entries
             ),
             after: "",
             run: None,
@@ -164,58 +127,31 @@ impl Lesson {
 }
 
 impl Chapter {
-    /// The chapter of this number, or what is missing in it.
-    fn of(number: usize, title: String, mut text: Vec<Block>) -> Result<Chapter, String> {
-        let lacks = |what: &str| format!("{}: {}", title, what);
-        let (aim, minutes) = aim(&text)
-            .ok_or_else(|| lacks("no **Aim.** with its (N minutes) stands below the heading"))?;
-        let example = example(&text).ok_or_else(|| lacks("no command runs an example"))?;
-        let file = format!("{}-{}.html", number, example);
-        drop_link(&mut text, &file)?;
-        Ok(Chapter {
+    fn titled(title: String) -> Chapter {
+        Chapter {
             title,
-            aim,
-            minutes,
-            example,
-            file,
-            text,
-        })
+            example: String::new(),
+            file: String::new(),
+            text: Vec::new(),
+        }
     }
 
-    /// In the index.
-    fn entry(&self, names: &OnPage) -> String {
-        format!(
-            "<li><a href=\"{0}\">{1}</a>\n<p>{2}</p>\n\
-             <p class=\"length\">{3} minutes; <a href=\"{0}{4}\">asked first</a></p></li>\n",
-            self.file,
-            inline(&self.title, names),
-            inline(&self.aim, names),
-            self.minutes,
-            ASKED
-        )
+    fn find_example(&mut self, number: usize) -> Result<(), String> {
+        let commands = self.text.iter().filter_map(|block| match block {
+            Block::Code(lines) => Some(lines.iter()),
+            _ => None,
+        });
+        let mut examples = commands.flatten().filter_map(|line| {
+            let name = line.strip_prefix(COMMAND)?;
+            name.strip_suffix(TEXT)
+        });
+        self.example = match examples.next() {
+            Some(example) => example.to_string(),
+            None => return Err(format!("{}: no command runs an example", self.title)),
+        };
+        self.file = format!("{}-{}.html", number, self.example);
+        Ok(())
     }
-}
-
-fn aim(text: &[Block]) -> Option<(String, usize)> {
-    let words = match text.first() {
-        Some(Block::Paragraph(words)) => words.strip_prefix(AIM)?,
-        _ => return None,
-    };
-    let (aim, length) = words.rsplit_once('(')?;
-    let minutes = length.strip_suffix(MINUTES)?.parse().ok()?;
-    Some((aim.trim().to_string(), minutes)).filter(|(aim, _)| !aim.is_empty())
-}
-
-fn example(text: &[Block]) -> Option<String> {
-    let commands = text.iter().filter_map(|block| match block {
-        Block::Code(lines) => Some(lines.iter()),
-        _ => None,
-    });
-    let mut examples = commands.flatten().filter_map(|line| {
-        let name = line.strip_prefix(COMMAND)?;
-        name.strip_suffix(TEXT)
-    });
-    examples.next().map(str::to_string)
 }
 
 /// The lesson's text leads to each page, by a paragraph that says nothing to
@@ -231,4 +167,93 @@ fn drop_link(text: &mut Vec<Block>, file: &str) -> Result<(), String> {
 
 fn tells(block: &Block) -> bool {
     matches!(block, Block::Paragraph(text) if text.starts_with(TOLD_AFTER))
+}
+
+/// Text of the lesson; of the class `told` is what the quiz must not tell.
+fn prose(class: &str, blocks: &[Block], names: &OnPage) -> String {
+    let text: String = blocks.iter().map(|block| html(block, names)).collect();
+    format!("<div class=\"{}\">\n{}</div>\n", class, text)
+}
+
+/// On a page: links go from its folder, and a line of the listing that the text
+/// speaks of leads to its step.
+struct OnPage {
+    steps: usize,
+}
+
+impl Names for OnPage {
+    fn link(&self, target: &str) -> String {
+        match target.strip_prefix(FOLDER) {
+            Some(page) => page.to_string(),
+            None => format!("../{}", target),
+        }
+    }
+
+    /// `line 8`, `Lines 8 and 9`, `lines 18 to 21`.
+    fn plain(&self, text: &str) -> String {
+        let mut out = String::new();
+        let mut rest = text;
+        while let Some((before, after)) = split_at_line(rest) {
+            out += &escaped(before);
+            rest = self.link_numbers(after, &mut out);
+        }
+        out + &escaped(rest)
+    }
+
+    fn code_line(&self, line: &str) -> String {
+        let mut fields = line.split(' ');
+        let number = fields.next().unwrap_or("");
+        match self.step(number) {
+            Some(_) if fields.count() == 4 => step_link(number, line),
+            _ => escaped(line),
+        }
+    }
+}
+
+impl OnPage {
+    fn step(&self, number: &str) -> Option<usize> {
+        let step = number.parse().ok()?;
+        Some(step).filter(|step| (1..=self.steps).contains(step))
+    }
+
+    /// Links the number that a text begins with, and those behind it; gives the
+    /// rest.
+    fn link_numbers<'a>(&self, text: &'a str, out: &mut String) -> &'a str {
+        let digits = text.find(|letter: char| !letter.is_ascii_digit());
+        let (number, after) = text.split_at(digits.unwrap_or(text.len()));
+        match self.step(number) {
+            Some(_) => *out += &step_link(number, number),
+            None => *out += number,
+        }
+        for word in [" and ", " to ", ", "] {
+            if let Some(more) = after.strip_prefix(word) {
+                if more.starts_with(|letter: char| letter.is_ascii_digit()) {
+                    *out += word;
+                    return self.link_numbers(more, out);
+                }
+            }
+        }
+        after
+    }
+}
+
+/// The words before a number that is a step, by a blank or at the end of a line.
+const LINE_WORDS: [&str; 4] = ["line ", "lines ", "line\n", "lines\n"];
+
+/// Parts a text behind the first of these words, large or small, that a number
+/// follows.
+fn split_at_line(text: &str) -> Option<(&str, &str)> {
+    let small = text.to_ascii_lowercase();
+    let found = LINE_WORDS.iter().flat_map(|word| small.match_indices(word));
+    let numbers = found.filter_map(|(at, word)| {
+        let end = at + word.len();
+        let is_word = !small[..at].ends_with(char::is_alphabetic);
+        let is_number = small[end..].starts_with(|letter: char| letter.is_ascii_digit());
+        Some(end).filter(|_| is_word && is_number)
+    });
+    numbers.min().map(|at| text.split_at(at))
+}
+
+fn step_link(number: &str, words: &str) -> String {
+    format!("<a href=\"#{}\">{}</a>", number, escaped(words))
 }

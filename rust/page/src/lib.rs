@@ -4,9 +4,8 @@
 //!   call, what its units were paid for (`bill`), and what it changed.
 //! - `html`: the page, made of those steps (`json`) and of the files in
 //!   `assets`, which are all that runs in the browser.
-//! - `lesson`: the chapters of the lesson as such pages, and an index; `texts`:
-//!   the texts that it leads to, as pages too. What both are made with is
-//!   `prose` and `markdown`.
+//! - `lesson`: the chapters of the lesson as such pages, with `markdown` for
+//!   their text.
 //! - `whole`: a page's file, which is there whole or not at all.
 //!
 //! The lines are the proved program's. The state is the second program's, which
@@ -18,7 +17,5 @@ pub mod html;
 mod json;
 pub mod lesson;
 pub mod markdown;
-pub mod prose;
 pub mod steps;
-pub mod texts;
 pub mod whole;

@@ -1,14 +1,14 @@
-//! The lesson's pages: where the run stands in a chapter, and what leads to a
-//! step.
+//! The lesson's pages: the little of Markdown that it is written in, where the
+//! run stands in a chapter, and what leads to a step.
 
 use events::text::to_bytes;
-use page::lesson::{pages, Lesson};
-use page::prose::INDEX;
+use page::lesson::{Lesson, INDEX};
+use page::markdown::{blocks, Block};
 use page::steps::Run;
-use page::texts::Texts;
 use second::listing;
 use std::fs;
 use std::path::Path;
+use std::process::Command;
 
 const TEXT: &str = "\
 # A lesson
@@ -17,15 +17,7 @@ Read <this>, 2 * 3 [not], **not `that`**: [CALLS](CALLS.md), `**`, in line 1.
 
 [As pages](lesson/index.html)
 
-## Beside it
-
-Not of the index, nor of a chapter.
-
 ## Chapter 1: \"Wait\"
-
-**Aim.** You wait (a little), and
-`see` [it](#chapter-2-go).
-(12 minutes)
 
     bin/lockrun --show examples/one.txt
 
@@ -42,17 +34,11 @@ lines 1 to 2, and line 3.
 
 ## Chapter 2: Go
 
-**Aim.** You go. (7 minutes)
-
     bin/lockrun --show examples/two.txt
 
 [Step through it](lesson/2-two.html)
 
 All is told.
-
-## Behind it
-
-Not of a chapter either.
 ";
 
 fn run() -> Run {
@@ -60,23 +46,8 @@ fn run() -> Run {
     Run::of(&events, listing(&events).as_bytes(), None)
 }
 
-/// The pages of a lesson that leads to one other text.
-fn made(text: &str) -> Result<Vec<(String, String)>, String> {
-    pages(|path| read(text, path), |_| Ok(run()))
-}
-
-fn read(lesson: &str, path: &str) -> Result<String, String> {
-    match path {
-        "LESSON.md" => Ok(lesson.to_string()),
-        "CALLS.md" => Ok(String::from("# Calls\n")),
-        _ => Err(format!("no {}", path)),
-    }
-}
-
-fn page_of(text: &str, file: &str) -> String {
-    let pages = made(text).expect("a right lesson");
-    let mut found = pages.into_iter().filter(|(made, _)| made == file);
-    found.next().expect(file).1
+fn lesson() -> Lesson {
+    Lesson::of(TEXT).expect("a right lesson")
 }
 
 /// The body of a page without what every page has.
@@ -103,13 +74,29 @@ fn at(lines: &[&str], wanted: &str) -> usize {
 }
 
 #[test]
+fn blocks_are_parted_by_empty_lines() {
+    let paragraph = |text: &str| Block::Paragraph(text.to_string());
+    let code = |lines: &[&str]| Block::Code(lines.iter().map(|line| line.to_string()).collect());
+    assert_eq!(
+        blocks("# a\n## b c\n#d\ne\n\nf\n\n    g\n      h\n\n    i\nj\n"),
+        [
+            Block::Heading(1, String::from("a")),
+            Block::Heading(2, String::from("b c")),
+            paragraph("#d\ne"),
+            paragraph("f"),
+            code(&["g", "  h"]),
+            code(&["i"]),
+            paragraph("j"),
+        ]
+    );
+}
+
+#[test]
 fn a_chapter_has_its_run_before_what_happens() {
-    let page = page_of(TEXT, "1-one.html");
+    let page = lesson().page(0, &run());
     let lines = body(&page);
     let order = [
         at(&lines, "<h1>Chapter 1: &quot;Wait&quot;</h1>"),
-        at(&lines, "<p><strong>Aim.</strong> You wait (a little), and"),
-        at(&lines, "(12 minutes)</p>"),
         at(&lines, "<pre>bin/lockrun --show examples/one.txt</pre>"),
         at(&lines, "<p>First line <a href=\"#2\">2</a> and then"),
         at(&lines, "lines <a href=\"#1\">1</a> to <a href=\"#2\">2</a>, and line 3.</p>"),
@@ -134,20 +121,18 @@ fn a_chapter_has_its_run_before_what_happens() {
 
 #[test]
 fn chapters_lead_to_each_other() {
+    let lesson = lesson();
     let all = "<a href=\"index.html\">All chapters</a>";
     let first = "<a href=\"1-one.html\">Before: Chapter 1: &quot;Wait&quot;</a>";
     let second = "<a href=\"2-two.html\">Next: Chapter 2: Go</a>";
-    for (at, file, ways) in [
-        (0, "1-one.html", [all, second]),
-        (1, "2-two.html", [all, first]),
-    ] {
-        let page = page_of(TEXT, file);
+    for (at, ways) in [(0, [all, second]), (1, [all, first])] {
+        let page = lesson.page(at, &run());
         for way in ways {
             assert_eq!(page.matches(way).count(), 2, "{}", way);
         }
         assert_eq!(page.matches("Before: ").count(), 2 * at);
     }
-    let page = page_of(TEXT, "2-two.html");
+    let page = lesson.page(1, &run());
     let lines = body(&page);
     // What tells nothing comes before the run.
     assert!(
@@ -158,44 +143,28 @@ fn chapters_lead_to_each_other() {
 
 #[test]
 fn the_index_leads_to_the_chapters() {
-    let page = page_of(TEXT, INDEX);
+    let page = lesson().index();
     let lines = body(&page);
     at(&lines, "<h1>A lesson</h1>");
     at(
         &lines,
-        "<p>Read &lt;this&gt;, 2 * 3 [not], <strong>not <code>that</code></strong>: <a href=\"calls.html\">CALLS</a>, <code>**</code>, in line 1.</p>",
+        "<p>Read &lt;this&gt;, 2 * 3 [not], <strong>not <code>that</code></strong>: <a href=\"../CALLS.md\">CALLS</a>, <code>**</code>, in line 1.</p>",
     );
-    let entries = [
-        "<li><a href=\"1-one.html\">Chapter 1: &quot;Wait&quot;</a>",
-        "<p>You wait (a little), and",
-        "<code>see</code> <a href=\"lesson.html#chapter-2-go\">it</a>.</p>",
-        "<p class=\"length\">12 minutes; <a href=\"1-one.html?ask\">asked first</a></p></li>",
-        "<li><a href=\"2-two.html\">Chapter 2: Go</a>",
-        "<p>You go.</p>",
-        "<p class=\"length\">7 minutes; <a href=\"2-two.html?ask\">asked first</a></p></li>",
-        "</ol>",
-        "<p><a href=\"lesson.html\">The whole lesson as one text</a></p>",
-    ];
-    let first = at(&lines, entries[0]);
-    assert_eq!(lines[first..first + entries.len()], entries);
+    at(
+        &lines,
+        "<li><a href=\"1-one.html\">Chapter 1: &quot;Wait&quot;</a></li>",
+    );
+    at(&lines, "<li><a href=\"2-two.html\">Chapter 2: Go</a></li>");
     assert!(!page.contains("As pages"));
     assert!(!page.contains("<script"));
-}
-
-#[test]
-fn what_is_beside_the_chapters_stands_in_the_text_alone() {
-    for (file, page) in made(TEXT).expect("a right lesson") {
-        let whole = file == "lesson.html";
-        assert_eq!(page.contains("Not of"), whole, "{}", file);
-        assert_eq!(page.contains("Behind it"), whole, "{}", file);
-    }
 }
 
 #[test]
 fn what_the_text_says_is_escaped_and_linked() {
     let more = "On line\n2, `a<b` and [x](y\"z).\n\n    2 pick <nothing> 0 -\n    2 places <are> free\n    9 pick nothing 0 -\n";
     let text = TEXT.replace("All is told.\n", more);
-    let page = page_of(&text, "2-two.html");
+    let lesson = Lesson::of(&text).expect("a right lesson");
+    let page = lesson.page(1, &run());
     let lines = body(&page);
     at(
         &lines,
@@ -208,9 +177,36 @@ fn what_the_text_says_is_escaped_and_linked() {
 }
 
 #[test]
+fn lessonpages_tells_a_listing_that_differs() {
+    let folder = std::env::temp_dir().join(format!("lessonpages-{}", std::process::id()));
+    fs::create_dir(&folder).expect("a folder");
+    let text = b"open 2\npick\n";
+    let events = to_bytes(text).expect("a text");
+    let proved = listing(&events).replace("2 pick nothing", "2 pick free:1.1");
+    fs::write(folder.join("lesson.md"), TEXT).expect("a file");
+    let parts: [(&str, &[u8]); 3] = [
+        ("txt", text),
+        ("events", &events),
+        ("listing", proved.as_bytes()),
+    ];
+    for (kind, bytes) in parts {
+        fs::write(folder.join(format!("one.{}", kind)), bytes).expect("a file");
+    }
+    let mut program = Command::new(env!("CARGO_BIN_EXE_lessonpages"));
+    let arguments = [&folder.join("lesson.md"), &folder, &folder];
+    let output = program.args(arguments).output().expect("it runs");
+    let pages = fs::read_dir(&folder).expect("the folder").count();
+    fs::remove_dir_all(&folder).expect("it is removed");
+    assert_eq!(output.status.code(), Some(1));
+    let said = String::from_utf8_lossy(&output.stderr);
+    assert_eq!(said, "the second program differs on one\n");
+    assert_eq!(pages, 4, "no page was written");
+}
+
+#[test]
 fn what_a_lesson_lacks_is_told() {
-    let told = |text: String| made(&text).expect_err("it is wrong");
-    assert_eq!(told(String::new()), "LESSON.md has no title");
+    let told = |text: String| Lesson::of(&text).expect_err("it is wrong");
+    assert_eq!(told(String::new()), "the lesson has no title");
     assert_eq!(
         told(TEXT.replace("(lesson/index.html)", "")),
         "the lesson has no link to lesson/index.html"
@@ -223,39 +219,25 @@ fn what_a_lesson_lacks_is_told() {
         told(TEXT.replace("examples/one.txt", "one.txt")),
         "Chapter 1: \"Wait\": no command runs an example"
     );
-    let aim = "**Aim.** You go. (7 minutes)";
-    for wrong in [
-        "You go. (7 minutes)",
-        "**Aim.** You go.",
-        "**Aim.** You go. (minutes)",
-        "**Aim.** You go. (7 minutes).",
-        "**Aim.** (7 minutes)",
-        "    **Aim.** You go. (7 minutes)",
-        "First this.\n\n**Aim.** You go. (7 minutes)",
-        "",
-    ] {
-        assert_eq!(
-            told(TEXT.replace(aim, wrong)),
-            "Chapter 2: Go: no **Aim.** with its (N minutes) stands below the heading",
-            "{}",
-            wrong
-        );
-    }
 }
 
 /// The lesson of this project: every chapter runs an example that there is.
 #[test]
 fn the_lesson_has_its_examples() {
     let root = Path::new(env!("CARGO_MANIFEST_DIR")).join("../..");
-    let read =
-        |path: &str| fs::read_to_string(root.join("docs").join(path)).map_err(|e| e.to_string());
-    let texts = Texts::of(read).expect("right texts");
-    let lesson = Lesson::of(texts.lesson()).expect("a right lesson");
-    assert_eq!(lesson.chapters.len(), 7);
+    let text = fs::read_to_string(root.join("docs/LESSON.md")).expect("the lesson");
+    let lesson = Lesson::of(&text).expect("a right lesson");
+    assert_eq!(lesson.chapters.len(), text.matches("\n## ").count());
     for chapter in &lesson.chapters {
         let example = root
             .join("examples")
             .join(format!("{}.txt", chapter.example));
         assert!(example.is_file(), "{}", chapter.title);
+        assert!(
+            root.join("docs/lesson").join(&chapter.file).is_file(),
+            "{}",
+            chapter.file
+        );
     }
+    assert!(root.join("docs/lesson").join(INDEX).is_file());
 }

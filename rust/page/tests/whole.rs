@@ -105,6 +105,13 @@ fn what_is_no_file_is_left_alone() {
 }
 
 #[test]
+fn a_device_is_written_to() {
+    write(Path::new("/dev/null"), "text").expect("written");
+    let error = write(Path::new("/dev/full"), "text").expect_err("it is full");
+    assert_eq!(error.raw_os_error(), Some(28));
+}
+
+#[test]
 fn a_name_may_be_as_long_as_names_are() {
     let folder = Folder::new("long");
     let name = "a".repeat(255);

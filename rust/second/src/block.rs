@@ -32,11 +32,11 @@ const MOST_ENTRIES: usize = 64;
 const LISTS_AT: usize = 8;
 const LIST_BYTES: usize = 16;
 
-/// The clauses of a sound block in the item's words and order. The first says
-/// "as above", which is the layout there; the eighth is as Item 2 leaves it. The ninth is "lists keep refusals 3 to 5", of which Item 4
+/// The clauses of a sound block in the item's words and order, the eighth as
+/// Item 2 leaves it. The ninth is "lists keep refusals 3 to 5", of which Item 4
 /// gives 5 no more. `Broken::clause` counts from 1.
 pub const CLAUSES: [&str; 11] = [
-    "heads, lengths and unused bytes are those of the layout",
+    "heads, lengths and unused bytes are as above",
     "shares sum to at most 64",
     "fuel, awaited and count keep document 01's limits",
     "due is at most awaited",
@@ -204,8 +204,7 @@ impl fmt::Display for Broken {
     fn fmt(&self, out: &mut fmt::Formatter<'_>) -> fmt::Result {
         match self {
             Broken::Length { bytes } => {
-                let plural = if *bytes == 1 { "" } else { "s" };
-                write!(out, "the block has {} byte{}, not {}", bytes, plural, BYTES)
+                write!(out, "the block has {} bytes, not {}", bytes, BYTES)
             }
             Broken::Head {
                 field,
@@ -379,7 +378,7 @@ struct Slot<'a> {
     bytes: &'a [u8],
 }
 
-// The first clause: "heads, lengths and unused bytes are those of the layout".
+// The first clause: "heads, lengths and unused bytes are as above".
 impl<'a> Fields<'a> {
     /// The fields stand "in this order".
     fn of(block: &'a [u8]) -> Result<Fields<'a>, Broken> {

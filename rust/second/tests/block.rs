@@ -135,11 +135,7 @@ fn a_wrong_length_is_not_sound() {
         let broken = Broken::Length { bytes };
         assert_eq!(read(&block), Err(broken));
         assert_eq!(broken.clause(), 1);
-        let counted = match bytes {
-            1 => String::from("1 byte"),
-            _ => format!("{} bytes", bytes),
-        };
-        let words = format!("the block has {}, not 2176", counted);
+        let words = format!("the block has {} bytes, not 2176", bytes);
         assert_eq!(broken.to_string(), words);
         assert_all_refused(&block);
     }

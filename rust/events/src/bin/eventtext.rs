@@ -1,10 +1,9 @@
 //! `eventtext < text > events` turns readable text to an event file, and
 //! `eventtext --back < events > text` turns an event file to text.
 //! `eventtext --either` takes text or an event file and writes an event file;
-//! `eventtext --text` takes text alone, `eventtext --bytes` an event file. These
-//! three are for what is to be run: events that are too many for an event file
-//! are a wrong line of a text, and an input that looks like something else is
-//! told by a hint.
+//! `eventtext --text` takes text alone. These two are for what is to be run:
+//! events that are too many for an event file are a wrong line, and an input that
+//! looks like something else is told by a hint.
 
 use events::back::to_text;
 use events::hint::hint;
@@ -12,8 +11,6 @@ use events::program::{ended, unwritten, Stop};
 use events::text::{is_text, to_bytes, to_file, WrongLine};
 use std::io::{self, Read, Write};
 use std::process::ExitCode;
-
-const USAGE: &str = "usage: eventtext [--text | --bytes | --either | --back]";
 
 fn main() -> ExitCode {
     ended(run)
@@ -25,13 +22,12 @@ fn run(arguments: &[String]) -> Result<(), Stop> {
     let turn: fn(Vec<u8>) -> Result<Vec<u8>, WrongLine> = match words[..] {
         [] => |text| to_bytes(&text),
         ["--text"] => |text| to_file(&text),
-        ["--bytes"] => Ok,
         ["--either"] => either,
         ["--back"] => |events| Ok(to_text(&events).into_bytes()),
-        _ => return Err(String::from(USAGE).into()),
+        _ => return Err(String::from("usage: eventtext [--text | --either | --back]").into()),
     };
     let input = read().map_err(|error| format!("eventtext: {}", error))?;
-    if let ["--text" | "--bytes" | "--either"] = words[..] {
+    if let ["--text" | "--either"] = words[..] {
         hint(&input).iter().for_each(|hint| eprintln!("{}", hint));
     }
     let output = turn(input).map_err(|wrong| wrong.to_string())?;

@@ -1,8 +1,8 @@
 //! Blocks composed by hand, byte by byte, from the layout in document 02's Item
-//! 1, and outcomes taken apart. Nothing here calls the library, but `gives`.
+//! 1. Nothing here calls the library, but `gives`.
 #![allow(dead_code)]
 
-use damsonpouch::{Answer, Locks, Name, Outcome, Refusal, State, BLOCK_LENGTH};
+use damsonpouch::{Locks, Outcome, BLOCK_LENGTH};
 
 /// A call with its arguments, for tables of calls.
 pub type Call = fn(&mut Locks<'_>) -> Outcome;
@@ -155,72 +155,4 @@ pub fn gives(block: &[u8], call: impl FnOnce(&mut Locks<'_>) -> Outcome, said: &
         );
     }
     assert_eq!(bytes.len(), after.len());
-}
-
-/// What a call gave, in every part. A test cannot write an `Outcome` or an
-/// `Answer::Entry` down, since a later version may have more in them; it writes
-/// this, and compares it with what `told` makes of the outcome.
-#[derive(Clone, Copy, Debug, PartialEq, Eq)]
-pub struct Told {
-    pub answer: Result<Said, Refusal>,
-    pub burnt: u32,
-}
-
-/// An answer, in every part.
-#[derive(Clone, Copy, Debug, PartialEq, Eq)]
-pub enum Said {
-    Ok,
-    Done,
-    Still,
-    Nothing,
-    Entry {
-        state: State,
-        tenant: u8,
-        serial: u16,
-        clash: Option<u8>,
-    },
-}
-
-/// An outcome by its public fields.
-#[track_caller]
-pub fn told(outcome: Outcome) -> Told {
-    let told = Told {
-        answer: outcome.answer.map(said),
-        burnt: outcome.burnt,
-    };
-    // both are told with all their fields: one that is not compared shows here
-    let whole = format!("{:?}", outcome).replacen("Outcome", "Told", 1);
-    assert_eq!(format!("{:?}", told), whole);
-    told
-}
-
-/// An answer by its public fields, to which the accessors are held.
-#[track_caller]
-fn said(answer: Answer) -> Said {
-    let (said, named) = match answer {
-        Answer::Ok => (Said::Ok, None),
-        Answer::Done => (Said::Done, None),
-        Answer::Still => (Said::Still, None),
-        Answer::Nothing => (Said::Nothing, None),
-        Answer::Entry {
-            state,
-            tenant,
-            serial,
-            clash,
-            ..
-        } => {
-            let entry = Said::Entry {
-                state,
-                tenant,
-                serial,
-                clash,
-            };
-            (entry, Some((state, Name { tenant, serial }, clash)))
-        }
-        other => panic!("an answer that is not compared: {:?}", other),
-    };
-    assert_eq!(answer.state(), named.map(|(state, _, _)| state));
-    assert_eq!(answer.name(), named.map(|(_, name, _)| name));
-    assert_eq!(answer.clash(), named.and_then(|(_, _, clash)| clash));
-    said
 }
