@@ -38,15 +38,15 @@ module _ (s : State) (file : List ℕ) (at : ℕ) (first : Bool) (number : ℕ) 
 
   module _ {e : Event} {n : ℕ} (q : record_at file at first ≡ Next.Call e n) {o : State} (d : DidCall s (call_at file at e) o) where
     -- the line of a call: its name, and the fuel in the state after it
-    call_line : {left : Left} → left ≡ left_after (view o) e.tenant → line_of number (Name.Call e.kind) o.said.answer o.said.burnt left ≡ call_line number (view s) (call_at file at e)
+    line-of-call : {left : Left} → left ≡ left_after (view o) e.tenant → line_of number (Name.Call e.kind) o.said.answer o.said.burnt left ≡ call_line number (view s) (call_at file at e)
     unfolding call_line
-    call_line left = cc (left, d.answer, d.burnt, d.table, event-read (record { first = first; next = n; is = q }))
+    line-of-call left = cc (left, d.answer, d.burnt, d.table, event-read (record { first = first; next = n; is = q }))
 
     pub step-called : {left : Left} → left ≡ left_after (view o) e.tenant → {l : Line} → Written (line_of number (Name.Call e.kind) o.said.answer o.said.burnt left) l → Steps s file at first number (record { state = o; line = l; next = n; more = true })
     step-called left w = record {
       sound = d.sound;
       table = rw q d.table;
-      line = rw q (rw (call_line left) at w);
+      line = rw q (rw (line-of-call left) at w);
       next = rw q refl;
       more = rw q refl;
       kept = rw q (λ (z : true ≡ false). absurd (let o : ◌≡◌ {A = ℕ} 0 1 = cc in omega arith));
