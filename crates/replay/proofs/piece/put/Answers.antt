@@ -1,5 +1,5 @@
 -- One byte more stands at its place.
-use Rattle.std.proofs.Common.{arith, rules, ◌∙◌, ◌+◌, ◌<◌, length}
+use Rattle.std.proofs.Common.{arith, rules, ◌+◌, ◌<◌, length}
 use Rattle.std.proofs.lemmas.List.Edits.{paste_more}
 use Rattle.replay.proofs.piece.put.Goals as goal
 
