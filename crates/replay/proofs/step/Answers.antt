@@ -1,4 +1,4 @@
--- The call with its line: a law of `Steps`. The refusal's line and the end need none.
+-- The call with its line. The refusal's line and the end need no answer.
 use Rattle.std.proofs.Common.{sym}
 use Rattle.replay.proofs.Stepping.{step-called}
 use Rattle.replay.proofs.step.Goals as goal
