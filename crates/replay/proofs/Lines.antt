@@ -7,7 +7,6 @@ use mathlib.Core.List.{List, [], ◌++◌}
 use native.Mathlib.Omega.{arith}
 use lib.ListN.{length}
 use Rattle.rules.specs.Table.{Table}
-use Rattle.rules.specs.Runs.{Call}
 use Rattle.manager.specs.declared.State.{State}
 use Rattle.manager.specs.State.{view}
 use Rattle.events.specs.declared.Next.{Next}

@@ -1,8 +1,8 @@
--- The start, and the three ways out of a step: the end, a refusal, and a call.
+-- The start, and the step of a call.
 use Prim.Native.Nat.{ℕ}
 use mathlib.Core.Path.{◌≡◌, refl}
 use mathlib.Core.Bool.{Bool, true, false}
-use mathlib.Core.List.{List, []}
+use mathlib.Core.List.{List}
 use native.Mathlib.Omega.{arith}
 use lib.Dec.{eqb}
 use lib.ListN.{replicate}
@@ -11,7 +11,7 @@ use Rattle.rules.specs.Refusals.{first_of, open_rows}
 use Rattle.rules.specs.Calls.{open_of}
 use Rattle.rules.proofs.Tests.{if-either}
 use Rattle.manager.specs.declared.State.{State}
-use Rattle.manager.specs.State.{view, Sound}
+use Rattle.manager.specs.State.{view}
 use Rattle.manager.specs.Runs.{DidCall}
 use Rattle.rules.specs.declared.Event.{Event}
 use Rattle.events.specs.declared.Next.{Next}
@@ -21,7 +21,7 @@ use Rattle.listing.specs.declared.Name.{Name}
 use Rattle.listing.specs.declared.Left.{Left}
 use Rattle.listing.specs.Listing.{line_of}
 use Rattle.listing.specs.Written.{Written}
-use Rattle.replay.specs.Replay.{left_after, call_line, file_line, unopened, Steps}
+use Rattle.replay.specs.Replay.{left_after, call_line, unopened, Steps}
 use Rattle.replay.proofs.Calls.{event-read}
 
 -- refused or not, an Open of 16 zeros makes the table before the first record
@@ -30,23 +30,17 @@ unfolding open_of
 opened-none = if-either (λ (t : Table). t ≡ unopened) (eqb (first_of (open_rows (replicate 16 0))) 0) refl refl
 
 module _ (s : State) (file : List ℕ) (at : ℕ) (first : Bool) (number : ℕ) where
-  pub step_end : record_at file at first ≡ Next.End → Sound s → {l : Line} → Written [] l → Steps s file at first number (record { state = s; line = l; next = at; more = false })
-  step_end q h w = record { sound = h; table = rw q refl; line = rw q w; next = rw q refl; more = rw q refl; kept = λ z. refl }
-
-  pub step-refused : {k : ℕ} → record_at file at first ≡ Next.Refused k → Sound s → {l : Line} → Written (file_line number k) l → Steps s file at first number (record { state = s; line = l; next = at; more = false })
-  step-refused q h w = record { sound = h; table = rw q refl; line = rw q w; next = rw q refl; more = rw q refl; kept = λ z. refl }
-
   module _ {e : Event} {n : ℕ} (q : record_at file at first ≡ Next.Call e n) {o : State} (d : DidCall s (call_at file at e) o) where
     -- the line of a call: its name, and the fuel in the state after it
-    call_line : {left : Left} → left ≡ left_after (view o) e.tenant → line_of number (Name.Call e.kind) o.said.answer o.said.burnt left ≡ call_line number (view s) (call_at file at e)
+    line-of-call : {left : Left} → left ≡ left_after (view o) e.tenant → line_of number (Name.Call e.kind) o.said.answer o.said.burnt left ≡ call_line number (view s) (call_at file at e)
     unfolding call_line
-    call_line left = cc (left, d.answer, d.burnt, d.table, event-read (record { first = first; next = n; is = q }))
+    line-of-call left = cc (left, d.answer, d.burnt, d.table, event-read (record { first = first; next = n; is = q }))
 
     pub step-called : {left : Left} → left ≡ left_after (view o) e.tenant → {l : Line} → Written (line_of number (Name.Call e.kind) o.said.answer o.said.burnt left) l → Steps s file at first number (record { state = o; line = l; next = n; more = true })
     step-called left w = record {
       sound = d.sound;
       table = rw q d.table;
-      line = rw q (rw (call_line left) at w);
+      line = rw q (rw (line-of-call left) at w);
       next = rw q refl;
       more = rw q refl;
       kept = rw q (λ (z : true ≡ false). absurd (let o : ◌≡◌ {A = ℕ} 0 1 = cc in omega arith));
