@@ -1,43 +1,54 @@
 // Prints the listings of the files 00, 01, .. of its folder, one behind the other, until there is no such file, or until a
-// listing cannot be written, which it says on standard error. It is run in a copy of data/.
+// listing cannot be written, which it says on standard error; but where nobody reads them any more it says nothing, and ends with
+// 141, as a program does that SIGPIPE ends. It is run in a copy of data/.
 #![tactic(auto)]
 
-// The last digit of a number.
-fn digit(n: u8) -> u8 {
+ghost use Rattle.std.specs.Prelude.{◌<◌};
+
+use replay::output::Watched;
+use std::io::{Read, Write};
+use std::process::ExitCode;
+use std::{fs, io, str};
+
+// The last digit of a number, in ASCII.
+fn digit(n: u8) -> u8
+    ensures { result < 128 }
+{
     48 + n % 10
 }
 
 // What is said where a listing cannot be written.
-fn tell() {
-    io::write_all(
-        libc::STDERR_FILENO,
-        b"cases: a listing could not be written\n",
-    );
+fn tell(rt: &impl Eprint) -> io::Result<()> {
+    eprintln!(rt; "cases: a listing could not be written")
 }
 
-// Prints the listing of what a descriptor gives, and answers whether all of it was written. One byte past 65,536 is enough to
-// know that a file is too long.
-fn listed(fd: i32) -> bool {
+// Prints the listing of what a file gives, and answers whether all of it was written. One byte past 65,536 is enough to know that
+// a file is too long.
+fn listed<R: Read, W: Write>(from: &mut R, to: &mut W) -> io::Result<bool> {
     let mut file = [0u8; 65537];
-    let n = io::read_full(fd, &mut file);
-    let printed = replay::print::listing(&file[..n]);
-    printed.all
+    let n = replay::input::read_full(from, &mut file)?;
+    let printed = replay::print::listing(to, &file[..n]);
+    Ok(printed.all)
 }
 
-fn main() {
-    let mut n: u8 = 0;
-    while n < 100 {
+fn main(rt: HostRuntime) -> io::Result<ExitCode> {
+    let mut to = Watched {
+        to: rt.stdout(),
+        unread: false,
+    };
+    for n in 0..100u8 {
         let path = [digit(n / 10), digit(n)];
-        let fd = os::open_read(&path);
-        if fd < 0 {
+        let Ok(mut file) = fs::open(&rt, str::from_utf8(&path).unwrap()) else {
             break;
+        };
+        let written = listed(&mut file, &mut to)?;
+        if to.unread {
+            return Ok(ExitCode::from(141));
         }
-        let written = listed(fd);
-        libc::close(fd);
         if !written {
-            tell();
+            tell(&rt)?;
             break;
         }
-        n += 1;
     }
+    Ok(ExitCode::SUCCESS)
 }

@@ -7,8 +7,9 @@
 ghost use Rattle.std.specs.Prelude.{◌≤◌, ◌<◌};
 ghost use Rattle.manager.specs.State.{Sound};
 
-use libc::{STDIN_FILENO, STDOUT_FILENO};
 use manager::State;
+use std::io;
+use std::io::Read;
 
 fn wide(x: u8) -> usize
     ensures { result < 256 }
@@ -87,16 +88,9 @@ fn scans(s: State, n: usize) -> State
     t
 }
 
-fn number(n: u64, behind: &[u8]) {
-    io::print_decimal(STDOUT_FILENO, n);
-    io::write_all(STDOUT_FILENO, behind);
-}
-
-fn show(s: State) {
+fn show(rt: &impl Print, s: State) -> io::Result<()> {
     let m = s.meters[0];
-    number(m.fuel as u64, b" ");
-    number(m.serials as u64, b" ");
-    number(s.count as u64, b"\n");
+    println!(rt; "{} {} {}", m.fuel, m.serials, s.count)
 }
 
 // The work of a letter on k entries held. With none held the scans find an empty queue.
@@ -118,9 +112,12 @@ fn worked(letter: u8, s: State, k: u8, n: usize) -> State
     scans(full, n)
 }
 
-fn main() {
+fn main(rt: HostRuntime) -> io::Result<()> {
+    // what the input does not give is 0
     let mut input = [0u8; 4];
-    io::read_full(STDIN_FILENO, &mut input);
+    for (byte, given) in input.iter_mut().zip(rt.stdin().bytes()) {
+        *byte = given?;
+    }
     let letter = input[0];
     let k = input[1];
     let n = 256 * wide(input[2]) + wide(input[3]);
@@ -128,6 +125,7 @@ fn main() {
         let s = opened();
         let t = held(s, k);
         let r = worked(letter, t, k, n);
-        show(r);
+        show(&rt, r)?;
     }
+    Ok(())
 }

@@ -1,12 +1,13 @@
 // Scans of an empty queue, twice as many as the one byte of standard input says, and tenant 1's fuel after them: what
-// bench/calls measures the stack of. No Begin or Finish is in this program, and it reads without a buffer, so that nothing
-// needs more stack than a scan does.
+// bench/calls measures the stack of. No Begin or Finish is in this program, and it reads and writes without a buffer, so that
+// nothing needs more stack than a scan does.
 #![tactic(auto)]
 
 ghost use Rattle.manager.specs.State.{Sound};
 
-use libc::{STDIN_FILENO, STDOUT_FILENO};
 use manager::State;
+use std::io;
+use std::io::{Read, Write};
 
 fn opened() -> State
     ensures { Sound result }
@@ -29,24 +30,24 @@ fn scans(s: State, n: u8) -> State
     t
 }
 
-fn show(s: State) {
+fn show(rt: &impl Print, s: State) -> io::Result<()> {
     let m = s.meters[0];
-    io::print_decimal(STDOUT_FILENO, m.fuel as u64);
-    io::write_all(STDOUT_FILENO, b"\n");
+    let fuel = m.fuel;
+    writeln!(io::writer(rt), "{fuel}")
 }
 
 // The scans are called for in two places, and not at all where there are none: so the compiler keeps their frame apart from
 // main's, and a run without them shows what the rest needs.
-fn main() {
+fn main(rt: HostRuntime) -> io::Result<()> {
     let mut input = [0u8; 1];
-    libc::read(STDIN_FILENO, &mut input);
+    rt.stdin().read(&mut input)?;
     let n = input[0];
     let s = opened();
     if n == 0 {
-        show(s);
+        show(&rt, s)
     } else {
         let half = scans(s, n);
         let whole = scans(half, n);
-        show(whole);
+        show(&rt, whole)
     }
 }
