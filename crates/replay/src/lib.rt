@@ -13,6 +13,7 @@ use listing::{Left, Line, Name};
 use manager::State;
 use rules::{Answer, Event, Kind};
 
+pub mod input;
 pub mod output;
 mod piece;
 pub mod print;

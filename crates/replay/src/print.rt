@@ -1,9 +1,10 @@
-// The listing of an event file, on standard output.
-ghost use Rattle.std.specs.Prelude.{◌<◌, ◌≡◌, true, length};
-ghost use Rattle.replay.specs.Prints.{Prints};
+// The listing of an event file, written out.
+ghost use Rattle.std.specs.Prelude.{◌<◌, ◌≡◌, true, false, ℕ, length, take};
+ghost use Rattle.std.specs.Io.KnownBytes.{Appends};
+ghost use Rattle.replay.specs.Prints.{Prints, Puts};
 
 use super::piece;
-use libc::STDOUT_FILENO;
+use std::io::Write;
 
 // What came of it: whether all of the listing was written, and how many of its bytes were before the first piece that was not.
 #[derive(Clone, Copy)]
@@ -12,25 +13,36 @@ pub struct Printed {
     pub bytes: usize,
 }
 
-// Whether the bytes could not be written, or not all of them. Where there are none, that is no failure.
-fn fails(bytes: &[u8]) -> bool
-    ensures { result ≡ true → 0 < length bytes.now }
+// Whether the bytes could not be written, or not all of them: a write failed, or took nothing. Where there are none, that is no
+// failure, and nothing is called.
+fn fails<W: Write>(to: &mut W, bytes: &[u8]) -> bool
+    ensures some { result ≡ true → 0 < length bytes.now }
+    ensures whole { result ≡ false → Appends (W.contents to.old) (W.contents to.new) bytes.now }
+    ensures part { result ≡ true → (n : ℕ) × (n < length bytes.now)
+        × Appends (W.contents to.old) (W.contents to.new) (take n bytes.now) }
 {
-    if bytes.len() == 0 {
-        return false;
+    let mut done = 0;
+    while done < bytes.len() {
+        match to.write(&bytes[done..]) {
+            Ok(0) => return true,
+            Ok(n) => done += n,
+            Err(_) => return true,
+        }
     }
-    !io::write_all(STDOUT_FILENO, bytes)
+    false
 }
 
 // Each piece is written whole, up to the first that cannot be. What the operating system does with the bytes no contract can
-// say; it can say that all are told to be written only where the pieces that were make up the listing.
-pub fn listing(bytes: &[u8]) -> Printed
-    ensures { Prints bytes.now result }
+// say; it can say that all are told to be written only where the pieces that were make up the listing, and which bytes a
+// writer has that keeps them.
+pub fn listing<W: Write>(to: &mut W, bytes: &[u8]) -> Printed
+    ensures prints { Prints bytes.now result }
+    ensures puts { Puts bytes.now (W.contents to.old) (W.contents to.new) result }
 {
     let mut out = [0u8; 65536];
     let mut p = piece::opened(bytes, &mut out);
     let first = p.len;
-    if fails(&out[..first]) {
+    if fails(to, &out[..first]) {
         return Printed {
             all: false,
             bytes: 0,
@@ -40,7 +52,7 @@ pub fn listing(bytes: &[u8]) -> Printed
     while p.more {
         p = piece::filled(p, bytes, &mut out);
         let n = p.len;
-        if fails(&out[..n]) {
+        if fails(to, &out[..n]) {
             return Printed {
                 all: false,
                 bytes: done,
