@@ -1,5 +1,5 @@
 -- The state stays sound from round to round, and the serial rises to its limit.
-use Rattle.std.proofs.Common.{◌-◌, ℕ}
+use Rattle.std.proofs.Common.{◌-◌}
 use Rattle.manager.specs.State.{Sound}
 use Rattle.direct.proofs.rounds.Given as goal
 

@@ -1,5 +1,5 @@
 -- The state stays sound from Begin to Begin; at most 63 entries are held, so 4 i + 3 is a record.
-use Rattle.std.proofs.Common.{◌-◌, ◌≤◌, ℕ}
+use Rattle.std.proofs.Common.{◌-◌, ◌≤◌}
 use Rattle.manager.specs.State.{Sound}
 use Rattle.rounds.proofs.held.Given as goal
 

@@ -1,5 +1,5 @@
 -- The state stays sound from round to round, and the serial is one above the rounds made.
-use Rattle.std.proofs.Common.{◌-◌, ◌≤◌, ℕ}
+use Rattle.std.proofs.Common.{◌-◌, ◌≤◌}
 use Rattle.manager.specs.State.{Sound}
 use Rattle.rounds.proofs.rounds.Given as goal
 

@@ -1,5 +1,5 @@
 -- The state stays sound from scan to scan.
-use Rattle.std.proofs.Common.{◌-◌, ◌≤◌, ℕ}
+use Rattle.std.proofs.Common.{◌-◌, ◌≤◌}
 use Rattle.manager.specs.State.{Sound}
 use Rattle.scans.proofs.scans.Given as goal
 
