@@ -6,38 +6,21 @@ host_target=x86_64-unknown-linux-gnu
 # Proves and writes the archive if it is missing or older than the crates; $archive is its folder. Where DAMSONPOUCH_LIB names a
 # folder, the one there is taken as it is.
 build_archive() {
-    local name=damsonpouch file log=$root/target/staticlib-damsonpouch.log began=$root/target/began-staticlib
     if [ -n "${DAMSONPOUCH_LIB:-}" ]; then
         archive=$(cd "$DAMSONPOUCH_LIB" && pwd) || fail "DAMSONPOUCH_LIB names no folder: $DAMSONPOUCH_LIB"
-        [ -f "$archive/lib$name.a" ] || fail "DAMSONPOUCH_LIB names a folder without lib$name.a: $DAMSONPOUCH_LIB"
+        [ -f "$archive/libdamsonpouch.a" ] ||
+            fail "DAMSONPOUCH_LIB names a folder without libdamsonpouch.a: $DAMSONPOUCH_LIB"
     else
         archive=$root/target/staticlib
-        file=$archive/lib$name.a
-        if ! [ -f "$file" ] || [ -n "$(find "$root/crates" "$root/crates.txt" -newer "$file" -print -quit)" ]; then
-            needs_rt
-            echo "proving and building lib$name.a, with what is missing of its crates (the first run takes some minutes) ..." >&2
-            mkdir -p "$root/target"
-            : >"$began"
-            if ! prove "$name" "$log" staticlib || ! [ -f "$file" ]; then
-                rm -f "$file"
-                cat "$log"
-                fail "rt staticlib $name"
-            fi
-            # what was changed since it began is newer
-            touch -r "$began" "$file"
-        fi
+        made_by_rt damsonpouch libdamsonpouch.a "$archive/libdamsonpouch.a" lib
     fi
     export DAMSONPOUCH_LIB=$archive
 }
 
-# finds how a program for x86-64 runs here: $host_runner, nothing on such a processor, and elsewhere Debian's emulator with the
-# kit's loader and C library, since the kit's emulator does not run a Rust program
+# finds how a program for x86-64 runs here: $host_runner, nothing on such a processor, and elsewhere what find_runner finds
 find_host_runner() {
-    host_runner=()
-    [ "$(uname -m)" != x86_64 ] || return 0
-    needs_x86_64
     find_runner
-    host_runner=("$(dpkg -L qemu-user | grep '/bin/qemu-x86_64$')" "${loader[@]}")
+    host_runner=("${emulator[@]}" "${loader[@]}")
 }
 
 # sets what cargo and the C compiler, $host_cc, need to build for x86-64, and to run what they built

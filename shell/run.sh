@@ -58,7 +58,7 @@ crates_of() {
             for (k = 1; k <= count; k++) reach(needs[k])
             print crate
         }
-        { sub(/#.*/, ""); gsub(/[ \t]/, "", $1); line[$1] = $2 }
+        { sub(/#.*/, ""); sub(/[ \t]+staticlib$/, "", $1); gsub(/[ \t]/, "", $1); line[$1] = $2 }
         END { reach(name) }' "$root/crates.txt"
 }
 
@@ -67,24 +67,23 @@ tell() {
     if [ -t 2 ]; then printf '\r%-70s' "$*" >&2; else echo "$*" >&2; fi
 }
 
-# How far the proving is, by what rt keeps of each crate in target/log: CRATE.say is there once rt has begun to prove it, which it does
-# not with an unchanged one, and CRATE.res has the verdict. Tells the crates begun since the last time; on a terminal, those at work.
+# How far the proving is, by what rt has said in $said: "rt: chose --jobs N for CRATE" where it begins to prove a crate, which it does
+# not with an unchanged one. Tells the crates begun since the last time; on a terminal, the one at work.
 tell_proving() {
-    local crate log at=()
-    for crate in "${crates[@]}"; do
-        log=$root/target/log/$crate
-        [ -f "$log.say" ] || grep -qs '^proved$' "$log.res" || continue
-        if [[ " ${begun[*]} " != *" $crate "* ]]; then
-            begun+=("$crate")
-            [ -t 2 ] || [ ! -f "$log.say" ] || tell_at "$crate"
-        fi
-        grep -Eqs '^(proved|built)$' "$log.res" || at+=("$crate")
-    done
-    [ ! -t 2 ] || [ "${#at[@]}" -eq 0 ] || tell_at "${at[@]}"
+    local crate
+    while read -r crate; do
+        [[ " ${begun[*]} " != *" $crate "* ]] || continue
+        begun+=("$crate")
+        [ -t 2 ] || tell_at "$crate"
+    done < <(sed -nE 's/^rt: chose --jobs [0-9]+ for (.*)$/\1/p' "$said")
+    [ ! -t 2 ] || [ "${#begun[@]}" -eq 0 ] || tell_at "${begun[-1]}"
 }
 
+# the crate's number is its place among those that are proved
 tell_at() {
-    tell "crate ${#begun[@]} of ${#crates[@]}: $*, $((SECONDS - since)) s so far"
+    local number
+    number=$(printf '%s\n' "${crates[@]}" | grep -nxF -e "$1" | cut -d: -f1)
+    tell "crate $number of ${#crates[@]}: $1, $((SECONDS - since)) s so far"
 }
 
 stop_proving() {
@@ -92,22 +91,23 @@ stop_proving() {
     prover=
 }
 
-# prove NAME LOG [COMMAND]: `rt check NAME`, or another command of rt that proves it, its status, and how far it is all the while.
-# It has a process group of its own: what rt has started does not end where rt alone is interrupted.
+# prove NAME LOG COMMAND: `rt COMMAND` in the crate's folder, which proves it and what it stands on, its status, and how far it is all
+# the while. It has a process group of its own: what rt has started does not end where rt alone is interrupted.
 prove() {
-    local crates begun=() since=$SECONDS crate status=0
+    local crates begun=() since=$SECONDS said=$2 status=0
     mapfile -t crates < <(crates_of "$1")
-    for crate in "${crates[@]}"; do rm -f "$root/target/log/$crate".{say,res}; done
+    : >"$said"
     prover=
     at_end stop_proving
     set -m
-    (cd "$root" && exec rt "${3:-check}" "$1") </dev/null >"$2" 2>&1 3>&- &
+    (cd "$root/crates/$1" && exec rt "$3") </dev/null >"$said" 2>&1 3>&- &
     prover=$!
     set +m
     while kill -0 "$prover" 2>/dev/null; do
         tell_proving
         sleep 1
     done
+    tell_proving
     wait "$prover" || status=$?
     stop_proving
     [ "$status" -ne 0 ] || tell "${#crates[@]} crates proved, $((SECONDS - since)) s"
@@ -115,39 +115,42 @@ prove() {
     return "$status"
 }
 
-# build_proved NAME: proves and builds the program NAME if it is missing or older than the sources
-build_proved() {
-    local program=$root/target/bin/$1 log=$root/target/check-$1.log began=$root/target/began-$1
+# made_by_rt NAME FILE PLACE COMMAND: PLACE is what `rt COMMAND` writes as FILE into the crate's out/. It is proved and built where it is
+# missing or older than the sources.
+made_by_rt() {
+    local name=$1 made=$root/crates/$1/out/$2 place=$3 log=$root/target/$4-$1.log began=$root/target/began-$1
     needs_rt
-    if [ -f "$program" ] && [ -z "$(find "$root/crates" "$root/crates.txt" -newer "$program" -print -quit)" ]; then
+    if [ -f "$place" ] && [ -z "$(find "$root/crates" "$root/crates.txt" -name out -prune -o -newer "$place" -print -quit)" ]; then
         return
     fi
-    echo "proving and building $1, with what is missing of its crates (the first run takes some minutes) ..." >&2
-    # rt builds nothing that its stamp says is unchanged, not even a program that was removed
-    [ -f "$program" ] || rm -f "$root/target/stamp/$1"
-    mkdir -p "$root/target"
+    echo "proving and building $2, with what is missing of its crates (the first run takes some minutes) ..." >&2
+    mkdir -p "$(dirname "$place")"
     : >"$began"
-    if ! prove "$1" "$log" || [ ! -f "$program" ]; then
-        rm -f "$program"
+    if ! prove "$name" "$log" "$4" || [ ! -f "$made" ]; then
+        rm -f "$place"
         cat "$log"
-        fail "rt check $1"
+        fail "rt $4 in crates/$name"
     fi
-    # an unchanged program was not built again, but checked now; what was changed since is newer
-    touch -r "$began" "$program"
+    cp "$made" "$place"
+    # an unchanged one was not built again, but checked now; what was changed since it began is newer
+    touch -r "$began" "$place"
 }
 
-# finds how `rt` runs a program on this processor: for x86-64, under the kit's loader and C library, and elsewhere behind
-# the kit's emulator
+# build_proved NAME: the program NAME as target/bin/NAME. `rt run` builds it and runs it once, on no input.
+build_proved() {
+    made_by_rt "$1" "$1" "$root/target/bin/$1" run
+}
+
+# finds how a proved program, which is for x86-64, runs on this processor: elsewhere behind Debian's emulator with Debian's loader and
+# C library for x86-64
 find_runner() {
-    local home tools name
-    needs_rt
-    home=$(dirname "$(dirname "$(rt doc)")")
-    tools=$home/on/$(uname -m)/toolchain
-    loader=("$tools/lib/ld-linux-x86-64.so.2" --library-path "$tools/lib")
+    local name
     emulator=()
-    if [ -x "$tools/bin/qemu-x86_64" ]; then
-        emulator=("$tools/bin/qemu-x86_64")
-    fi
+    loader=()
+    [ "$(uname -m)" != x86_64 ] || return 0
+    needs_x86_64
+    emulator=("$(dpkg -L qemu-user | grep '/bin/qemu-x86_64$')")
+    loader=(/usr/x86_64-linux-gnu/lib/ld-linux-x86-64.so.2 --library-path /usr/x86_64-linux-gnu/lib)
     # settings of an emulator are none of the program's
     for name in "${!QEMU_@}"; do unset "$name"; done
 }

@@ -1,5 +1,5 @@
 //! Finds `libdamsonpouch.a`: in the folder that `DAMSONPOUCH_LIB` names, and
-//! else where `rt staticlib damsonpouch` writes it in this repository.
+//! else where `bin/make-archive` writes it in this repository.
 
 use std::env;
 use std::path::{Path, PathBuf};
@@ -27,7 +27,7 @@ fn main() {
     println!("cargo:rerun-if-changed={}", archive.display());
     if !archive.is_file() {
         stop(&format!(
-            "{} is missing: run `rt staticlib damsonpouch` in the repository, or let {} name \
+            "{} is missing: run `bin/make-archive` in the repository, or let {} name \
              the folder that has {}",
             archive.display(),
             FOLDER,

@@ -1,5 +1,5 @@
 //! Where the library is: the folder that `DAMSONPOUCH_LIB` names, or the one
-//! that `rt staticlib` writes to.
+//! that `bin/make-archive` writes to.
 
 fn main() {
     println!("cargo:rerun-if-env-changed=DAMSONPOUCH_LIB");
