@@ -3,6 +3,7 @@ use borrow.Author.Rules.{rules}
 use Prim.Native.Nat.{◌-◌, ◌<◌, ◌≤◌}
 use native.Mathlib.Omega.{arith}
 use mathlib.Core.Path.{◌≡◌, refl, sym, ap, subst, ◌∙◌}
+use mathlib.Core.Logic.{⊎_elim}
 use mathlib.Core.Bool.{true, false}
 use lib.ListN.{length, get_or, take}
 use Rattle.rules.specs.declared.Answer.TheVariants.{Nothing}
@@ -25,7 +26,7 @@ use Rattle.manager.proofs.Slots.{Slotted, slotted}
 use Rattle.manager.proofs.Searching.{Over, over-moved, over_none, over-short, over-found, over-more, over-did}
 use Rattle.manager.proofs.scan.searched.Statement.{statement}
 use Rattle.manager.proofs.scan.searched.Tie as tie
-use Rattle.manager.proofs.scan.searched.Lts.{else-loop-i-test, then-loop-i-test+then-left-cost, then-loop-i-test+else-left-cost+then-sought+then-clear_by_maps, else-sought-via-then-sought+else-clear_by_maps, else-sought-via-else-sought}
+use Rattle.manager.proofs.scan.searched.Lts.{else-sought-via-then-sought+else-clear_by_maps, else-sought-via-else-sought}
 
 abbrev invariant-loop : tie.invariant-loop-i
 invariant-loop number who n₀ k left₀ burnt₀ answer₀ written₀ read₀ count i₀ n left burnt answer written read i =
@@ -118,16 +119,16 @@ ends c =
     let a = c.before in
     let t = (sound a).tied in
     let v = a.loop-i.invariant in
-    elim c.loop-i-test.branch [
-      | else-loop-i-test w ↦
-          rw (w.n-is, w.left-is, w.burnt-is, w.answer-is ∙ v.3) (over-moved v.2 (over_none t (slots a) v.1 (omega (arith, counted a, w.loop-i-test.false))))
-      | then-loop-i-test+then-left-cost w ↦
-          rw (w.n-is, w.left-is, w.burnt-is, w.answer-is) (over-moved v.2 (over-short t (slots a) v.1 (inside (record { before = a; loop-i-test = w.loop-i-test })) _ w.size.ensures.0 w.if-left-cost.true))
-      | then-loop-i-test+else-left-cost+then-sought+then-clear_by_maps w ↦
-          let e = request (get_or a.loop-i.n.entries a.loop-i.i blank) in
-          let stops : fits (tested a).before.args.who a.loop-i.written a.loop-i.read e ≡ true = rw (sym w.sought.ensures ∙ w.if-sought.true, sym w.clear_by_maps.ensures ∙ w.if-clear_by_maps.true) refl in
-          rw (w.n-is, w.left-is, w.burnt-is, w.answer-is) (over-moved v.2 (over-found t (slots a) v.1 (inside (record { before = a; loop-i-test = w.loop-i-test })) _ w.size.ensures.0 w.if-left-cost.false _ w.charged-paid.ensures stops w.promoted-p.ensures w.named-answer.ensures))
-    ]
+    -- by the sum of the three ways, which does not name them by their tests
+    ⊎_elim
+    (λ w. rw (w.n-is, w.left-is, w.burnt-is, w.answer-is ∙ v.3) (over-moved v.2 (over_none t (slots a) v.1 (omega (arith, counted a, w.loop-i-test.false)))))
+    (⊎_elim
+    (λ w. rw (w.n-is, w.left-is, w.burnt-is, w.answer-is) (over-moved v.2 (over-short t (slots a) v.1 (inside (record { before = a; loop-i-test = w.loop-i-test })) _ w.size.ensures.0 (omega arith))))
+    (λ w.
+    let e = request (get_or a.loop-i.n.entries a.loop-i.i blank) in
+    let stops : fits (tested a).before.args.who a.loop-i.written a.loop-i.read e ≡ true = rw (sym w.sought.ensures ∙ w.if-sought.true, sym w.clear_by_maps.ensures ∙ w.if-clear_by_maps.true) refl in
+    rw (w.n-is, w.left-is, w.burnt-is, w.answer-is) (over-moved v.2 (over-found t (slots a) v.1 (inside (record { before = a; loop-i-test = w.loop-i-test })) _ w.size.ensures.0 (omega arith) _ w.charged-paid.ensures stops w.promoted-p.ensures w.named-answer.ensures))))
+    c.loop-i-test.branch-raw
 
 outsider : (s : tie.Start invariant-loop decreases-loop) → is_tenant s.args.who ≡ false → s.args.number ≡ 1
 unfolding scan_rows
@@ -184,10 +185,10 @@ add-cost : tie.Need-overflow_add-cost invariant-loop decreases-loop
 add-cost c = omega (arith, c.size.ensures.1)
 
 charged-requires-2 : tie.Need-charged-paid-requires invariant-loop decreases-loop
-charged-requires-2 c κs = c.if-left-cost.false
+charged-requires-2 c κs = omega arith
 
 add-burnt : tie.Need-overflow_add-burnt invariant-loop decreases-loop
-add-burnt c = let a = (looked c).before in omega (arith, a.loop-i.invariant.1.whole, c.before.if-left-cost.false, small a.before.before.before)
+add-burnt c = let a = (looked c).before in omega (arith, a.loop-i.invariant.1.whole, small a.before.before.before)
 
 sought-requires : tie.Need-sought-requires invariant-loop decreases-loop
 sought-requires c κs = search rules
@@ -243,7 +244,7 @@ loop-again c =
     let e = rich.before.before in
     let g = rw (write-list two) at second.add.ensures.0 in
     let h = rw (read-list one) at c.add-in-loop-i.ensures.0 in
-    (omega (arith, t.loop-i-test.true), over-more (sound a).tied (slots a) v.1 (inside t) _ e.size.ensures.0 rich.if-left-cost.false _ told.before.charged-paid.ensures (goes_on passed) g h, v.2, v.3, second.add.ensures.1, c.add-in-loop-i.ensures.1)
+    (omega (arith, t.loop-i-test.true), over-more (sound a).tied (slots a) v.1 (inside t) _ e.size.ensures.0 (omega arith) _ told.before.charged-paid.ensures (goes_on passed) g h, v.2, v.3, second.add.ensures.1, c.add-in-loop-i.ensures.1)
 
 mul_left : tie.Need-offset_bounds-n-k-2 invariant-loop decreases-loop
 mul_left c = omega (arith, (range (tested c.before)).1)
