@@ -3,22 +3,9 @@
 
 host_target=x86_64-unknown-linux-gnu
 
-# Proves and writes the archive if it is missing or older than the crates; $archive is its folder. Where DAMSONPOUCH_LIB names a
-# folder, the one there is taken as it is.
-build_archive() {
-    if [ -n "${DAMSONPOUCH_LIB:-}" ]; then
-        archive=$(cd "$DAMSONPOUCH_LIB" && pwd) || fail "DAMSONPOUCH_LIB names no folder: $DAMSONPOUCH_LIB"
-        [ -f "$archive/libdamsonpouch.a" ] ||
-            fail "DAMSONPOUCH_LIB names a folder without libdamsonpouch.a: $DAMSONPOUCH_LIB"
-    else
-        archive=$root/target/staticlib
-        made_by_rt damsonpouch libdamsonpouch.a "$archive/libdamsonpouch.a" lib
-    fi
-    export DAMSONPOUCH_LIB=$archive
-}
-
 # finds how a program for x86-64 runs here: $host_runner, nothing on such a processor, and elsewhere what find_runner finds
 find_host_runner() {
+    needs_x86_64
     find_runner
     host_runner=("${emulator[@]}" "${loader[@]}")
 }

@@ -141,16 +141,31 @@ build_proved() {
     made_by_rt "$1" "$1" "$root/target/bin/$1" run
 }
 
+# build_archive: proves and writes the archive of the calls that a host links, if it is missing or older than the crates; $archive is its folder. Where DAMSONPOUCH_LIB names a
+# folder, the one there is taken as it is.
+build_archive() {
+    if [ -n "${DAMSONPOUCH_LIB:-}" ]; then
+        archive=$(cd "$DAMSONPOUCH_LIB" && pwd) || fail "DAMSONPOUCH_LIB names no folder: $DAMSONPOUCH_LIB"
+        [ -f "$archive/libdamsonpouch.a" ] ||
+            fail "DAMSONPOUCH_LIB names a folder without libdamsonpouch.a: $DAMSONPOUCH_LIB"
+    else
+        archive=$root/target/staticlib
+        made_by_rt damsonpouch libdamsonpouch.a "$archive/libdamsonpouch.a" lib
+    fi
+    export DAMSONPOUCH_LIB=$archive
+}
+
 # finds how a proved program, which is for x86-64, runs on this processor: elsewhere behind Debian's emulator with Debian's loader and
 # C library for x86-64
 find_runner() {
-    local name
+    local name cross=/usr/x86_64-linux-gnu/lib
     emulator=()
     loader=()
     [ "$(uname -m)" != x86_64 ] || return 0
-    needs_x86_64
-    emulator=("$(dpkg -L qemu-user | grep '/bin/qemu-x86_64$')")
-    loader=(/usr/x86_64-linux-gnu/lib/ld-linux-x86-64.so.2 --library-path /usr/x86_64-linux-gnu/lib)
+    command -v qemu-x86_64 >/dev/null 2>&1 && [ -e "$cross/ld-linux-x86-64.so.2" ] ||
+        fail "this processor is $(uname -m), and a proved program is for x86-64: qemu-user and libc6-amd64-cross run it"
+    emulator=(qemu-x86_64)
+    loader=("$cross/ld-linux-x86-64.so.2" --library-path "$cross")
     # settings of an emulator are none of the program's
     for name in "${!QEMU_@}"; do unset "$name"; done
 }
