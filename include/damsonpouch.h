@@ -1,4 +1,4 @@
-/* The proved lock manager, for C and C++ on x86-64: link libdamsonpouch.a, which `rt staticlib damsonpouch` writes to
+/* The proved lock manager, for C and C++ on x86-64: link libdamsonpouch.a, which `bin/make-archive` writes to
  * target/staticlib. It needs nothing but the C library, and of that memcpy and its like.
  *
  * The host lends a block of DAMSONPOUCH_BLOCK_LENGTH bytes, which is the whole state: no call keeps anything elsewhere, so a

@@ -115,8 +115,8 @@ prove() {
     return "$status"
 }
 
-# made_by_rt NAME FILE PLACE COMMAND: PLACE is what `rt COMMAND` writes as FILE into the crate's out/. It is proved and built where it is
-# missing or older than the sources.
+# made_by_rt NAME FILE PLACE COMMAND: PLACE is what `rt COMMAND` in the crate's folder writes as FILE into its out/. It is proved and
+# built where it is missing or older than the sources.
 made_by_rt() {
     local name=$1 made=$root/crates/$1/out/$2 place=$3 log=$root/target/$4-$1.log began=$root/target/began-$1
     needs_rt
@@ -131,9 +131,10 @@ made_by_rt() {
         cat "$log"
         fail "rt $4 in crates/$name"
     fi
-    cp "$made" "$place"
+    cp "$made" "$place.$$"
     # an unchanged one was not built again, but checked now; what was changed since it began is newer
-    touch -r "$began" "$place"
+    touch -r "$began" "$place.$$"
+    mv "$place.$$" "$place"
 }
 
 # build_proved NAME: the program NAME as target/bin/NAME. `rt run` builds it and runs it once, on no input.
@@ -141,8 +142,8 @@ build_proved() {
     made_by_rt "$1" "$1" "$root/target/bin/$1" run
 }
 
-# build_archive: proves and writes the archive of the calls that a host links, if it is missing or older than the crates; $archive is its folder. Where DAMSONPOUCH_LIB names a
-# folder, the one there is taken as it is.
+# proves and writes the archive of the calls that a host links, if it is missing or older than the crates; $archive is its folder.
+# Where DAMSONPOUCH_LIB names a folder, the one there is taken as it is.
 build_archive() {
     if [ -n "${DAMSONPOUCH_LIB:-}" ]; then
         archive=$(cd "$DAMSONPOUCH_LIB" && pwd) || fail "DAMSONPOUCH_LIB names no folder: $DAMSONPOUCH_LIB"

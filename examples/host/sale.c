@@ -1,7 +1,7 @@
 /* A sale like that of examples/sale.txt, in C: a shop counts its lamps while a seller wants to sell one, which reads the stock
  * and writes it back. In the repository's folder:
  *
- *     rt staticlib damsonpouch
+ *     bin/make-archive
  *     gcc -O2 -Iinclude examples/host/sale.c target/staticlib/libdamsonpouch.a -o sale
  *     ./sale
  *
