@@ -119,10 +119,10 @@ prove() {
 # built where it is missing or older than the sources.
 made_by_rt() {
     local name=$1 made=$root/crates/$1/out/$2 place=$3 log=$root/target/$4-$1.log began=$root/target/began-$1
-    needs_rt
     if [ -f "$place" ] && [ -z "$(find "$root/crates.txt" "$root"/crates/*/* -name out -prune -o -newer "$place" -print -quit)" ]; then
         return
     fi
+    needs_rt
     echo "proving and building $2, with what is missing of its crates (the first run takes some minutes) ..." >&2
     mkdir -p "$(dirname "$place")"
     : >"$began"
