@@ -5,9 +5,9 @@ use mathlib.Core.Bool.{Bool, true, false, true≢false}
 use native.Mathlib.Omega.{arith}
 use lib.Dec.{eqb, ltb, leb}
 use borrow.Author.Tests.{eqb-true, eqb-false, ltb-true, ltb-false, leb-true, leb-false}
-use Rattle.rules.specs.declared.Mode.TheVariants.{Free, Waiting, Blocked}
+use Rattle.rules.specs.declared.Mode.TheVariants.{Blocked}
 use Rattle.rules.specs.Request.{is_blocked}
-use Rattle.block.specs.Clauses.{mode_of, Suits}
+use Rattle.block.specs.Clauses.{mode_of}
 use Rattle.block.specs.Check.{Tells}
 
 pub tells-no : {P : Type 0} → (P → ⊥) → Tells false P
@@ -50,26 +50,3 @@ pub mode-clear : (n : ℕ) → n ≤ 1 → is_blocked (mode_of n) ≡ false
 mode-clear zero h = refl
 mode-clear (suc zero) h = refl
 mode-clear (suc (suc n)) h = absurd (omega arith)
-
--- what a state asks for is a test of one number
-module _ (due n : ℕ) where
-  pub free-tells : Tells (eqb due 0) (Suits Free due n)
-  free-tells =
-      part-last
-      (equal-tells due 0)
-      (λ e. record { free = λ z. e; waiting = λ z. absurd (true≢false (sym z)); blocked = λ z. absurd (true≢false (sym z)) })
-      (λ a. a.free refl)
-
-  pub waiting-tells : Tells (ltb 0 due) (Suits Waiting due n)
-  waiting-tells =
-      part-last
-      (below-tells 0 due)
-      (λ e. record { free = λ z. absurd (true≢false (sym z)); waiting = λ z. e; blocked = λ z. absurd (true≢false (sym z)) })
-      (λ a. a.waiting refl)
-
-  pub blocked-tells : Tells (ltb 0 n) (Suits Blocked due n)
-  blocked-tells =
-      part-last
-      (below-tells 0 n)
-      (λ e. record { free = λ z. absurd (true≢false (sym z)); waiting = λ z. absurd (true≢false (sym z)); blocked = λ z. e })
-      (λ a. a.blocked refl)

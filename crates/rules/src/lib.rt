@@ -1,7 +1,7 @@
 // What the law book shares with the code: the state of an entry, the answer of a call, and which call an event asks for.
-// An entry's state: running, waiting for remote answers, or blocked.
 #![tactic(auto)]
 
+// An entry's state: running, waiting for remote answers, or blocked.
 #[derive(Clone, Copy)]
 pub enum Mode {
     Free,
