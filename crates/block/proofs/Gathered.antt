@@ -85,7 +85,7 @@ unused-told b {r} {n} whole few is told =
     let from = 640 + n * 24 in
     let m = 2_176 - from in
     let size = length-drop from b in
-    let all : take m (drop from b) ≡ drop from b = take_all m (drop from b) (omega (arith, size)) in
+    let all : take m (drop from b) ≡ drop from b = take_all m (drop from b) (omega (arith, whole, size)) in
     let count : length (take m (drop from b)) ≡ (64 - count_in b) * 24 = ap length all ∙ size ∙ omega arith in
     let here : take m (drop from b) ≡ drop (640 + count_in b * 24) b = all ∙ ap (λ (k : ℕ). drop (640 + k * 24) b) is in
     let zeros = ap (λ (k : ℕ). replicate {A = ℕ} k 0) count in

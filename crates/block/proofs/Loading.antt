@@ -1,6 +1,6 @@
 -- A state that is read from a sound block: its slots hold the block's queue, its maps have the queue's records, and its table is
 -- the block's.
-use Prim.Native.Nat.{ℕ, ◌+◌, ◌*◌, ◌-◌, ◌≤◌, ◌<◌}
+use Prim.Native.Nat.{ℕ, ◌+◌, ◌-◌, ◌*◌, ◌≤◌, ◌<◌}
 use mathlib.Core.Path.{◌≡◌, refl, sym, ap, subst, ◌∙◌}
 use mathlib.Core.Bool.{Bool, ◌||◌}
 use mathlib.Core.List.{List, [], ◌∷◌, ◌++◌, map}
@@ -106,7 +106,7 @@ row_cut b i = cut-part b (640 + i * 24) 24 24 refl
 abbrev counted : (List Request → ℕ → ℕ) → List Request → List ℕ
 counted f q = tab (f q) 256
 
-pub loaded : {b : List ℕ} {s : State} → SoundBlock b → s.cx ≡ part b 121 256 → s.cs ≡ part b 380 256 → map meter_view s.meters ≡ meters_in b → Slots (queue_in b) (queue_of s) → MapsOf (queue_in b) s.written s.read → Holds b s
+pub loaded : {b : List ℕ} {s : State} → SoundBlock b → s.cx ≡ part b 121 256 → s.cs ≡ part b 380 256 → map meter_view s.meters ≡ meters_in b → Slots (queue_in b) (queue_of s) → MapsOf (queue_in b) s.maps.written s.maps.read → Holds b s
 loaded {b} {s} k x y meters slots maps =
     let c = sound-clauses k in
     let same : view s ≡ table_in b = ap (λ (m : List LawMeter). record { meters = m; queue = (view s).queue }) meters ∙ ap (λ (q : List Request). record { meters = meters_in b; queue = q }) slots.list in
@@ -115,7 +115,7 @@ loaded {b} {s} k x y meters slots maps =
     let readers : s.cs ≡ counted cs (view s).queue = y ∙ c.counters.readers ∙ ap (counted cs) (sym slots.list) in
     let at-cx : Counts (λ e. e.writes) s.cx (view s).queue = record { each = λ j (lt : j < 256). ap (λ (l : List ℕ). get_or l j 0) writers ∙ tab-get (cx (view s).queue) 0 256 j lt } in
     let at-cs : Counts (λ e. e.reads) s.cs (view s).queue = record { each = λ j (lt : j < 256). ap (λ (l : List ℕ). get_or l j 0) readers ∙ tab-get (cs (view s).queue) 0 256 j lt } in
-    let of-queue = subst (λ (q : List Request). MapsOf q s.written s.read) (sym slots.list) maps in
+    let of-queue = subst (λ (q : List Request). MapsOf q s.maps.written s.maps.read) (sym slots.list) maps in
     record {
       sound = record {
         table = subst SoundTable (sym is) k.sound;

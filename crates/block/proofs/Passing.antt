@@ -1,13 +1,19 @@
 -- What the steps of the check read and compare: three bytes, two lists, the lists of a row, the meters.
 use Prim.Native.Nat.{ℕ, ◌+◌, ◌-◌, ◌*◌, ◌≤◌, ◌<◌}
 use mathlib.Core.Path.{◌≡◌, refl, sym, ap, ◌∙◌}
-use mathlib.Core.Bool.{true, false}
+use mathlib.Core.Bool.{Bool}
 use mathlib.Core.List.{List, [], ◌∷◌, ◌++◌}
+use denote.Enum.Bare.{sameb}
 use native.Mathlib.Omega.{arith}
 use native.Mathlib.Numerals.{add-one}
 use lib.Dec.{eqb, leb}
-use lib.ListN.{length, get_or, take, drop, replicate, length-drop}
+use lib.ListN.{length, get_or, take, drop, replicate, length-drop, get_or-replicate, replicate-append-replicate}
+use Rattle.std.specs.Int.Bits.{bit_or, or_add_and}
+use Rattle.std.proofs.lemmas.Nat.{and_le_l, and_le_r}
 use lib.Seq.{take-suc, take_all, take-take, get_or-take, length-take-le}
+use Rattle.rules.specs.contracts.Mode as mode
+use Rattle.rules.specs.declared.Mode.{Mode}
+use Rattle.rules.specs.declared.Mode.TheVariants.{Blocked}
 use Rattle.rules.specs.Lists.{total}
 use Rattle.rules.specs.Request.{Request, requested, size, is_blocked}
 use Rattle.rules.specs.Counters.{figure2}
@@ -16,108 +22,54 @@ use Rattle.rules.specs.Sound.Each.{none}
 use Rattle.rules.specs.Table.{Meter, no_meter, most_fuel}
 use Rattle.rules.proofs.Lists.{total-append}
 use Rattle.rules.proofs.Order.{each_at, each_last}
+use Rattle.manager.proofs.Modes.{blocked-told}
 use Rattle.block.specs.Block.{tab}
-use Rattle.block.specs.Clauses.{part, request_in, meter_from, meter_at, mode_of, Same, Suited, RestZero, Suits}
+use Rattle.block.specs.Clauses.{request_in, meter_from, meter_at, mode_of, Same, Suited, Suits}
 use Rattle.block.specs.Check.{Tells, MetersFit}
-use Rattle.block.proofs.Places.{tab-part, tab-length, tab-get, cut-part}
-use Rattle.block.proofs.Telling.{mode-blocked, mode-clear, equal-tells, most-tells, part-last}
+use Rattle.block.proofs.Places.{take-replicate, tab-length, tab-get, cut-part}
+use Rattle.block.proofs.Telling.{equal-tells, most-tells, part-last}
 
--- ---- three bytes
-pub record Three (b : List ℕ) (at x y z : ℕ) : Type 0 where
-  pub first : get_or b at 0 ≡ x
-  pub second : get_or b (at + 1) 0 ≡ y
-  pub third : get_or b (at + 2) 0 ≡ z
+-- ---- zeros, as a number stays 0 while all bytes are: it is 0 exactly if the first i bytes are
+abbrev pub Nought : List ℕ → ℕ → ℕ → Type 0
+Nought p i any = Same (any ≡ 0) (take i p ≡ replicate i 0)
 
-module _ (b : List ℕ) (at : ℕ) (room : at + 3 ≤ length b) where
-  abbrev there : List ℕ
-  there = get_or b at 0 ∷ get_or b (at + 1) 0 ∷ get_or b (at + 2) 0 ∷ []
+pub nought-none : (p : List ℕ) → Nought p 0 0
+nought-none p = record { to = λ z. refl; from = λ z. refl }
 
-  three : part b at 3 ≡ there
-  unfolding tab
-  three =
-      let none : at + 0 ≡ at = omega arith in
-      sym (tab-part b at 3 room) ∙ ap (λ (k : ℕ). get_or b k 0 ∷ get_or b (at + 1) 0 ∷ get_or b (at + 2) 0 ∷ []) none
+no-bit : (a b : ℕ) → bit_or a b ≡ 0 → (a ≡ 0) × (b ≡ 0)
+no-bit a b e = (omega (arith, or_add_and a b, and_le_r a b), omega (arith, or_add_and a b, and_le_l a b))
 
-  byte : {l : List ℕ} → part b at 3 ≡ l → (k : ℕ) → get_or there k 0 ≡ get_or l k 0
-  byte e k = ap (λ (l : List ℕ). get_or l k 0) (sym three ∙ e)
+pub nought-more : (p : List ℕ) (i any : ℕ) → i < length p → Nought p i any → Nought p (i + 1) (bit_or any (get_or p i 0))
+nought-more p i any inp a =
+    let longer : take (i + 1) p ≡ take i p ++ get_or p i 0 ∷ [] = rw add-one (take-suc p i 0 inp) in
+    let last : replicate {A = ℕ} (i + 1) 0 ≡ replicate i 0 ++ 0 ∷ [] = sym (replicate-append-replicate i 1 0) in
+    record {
+      to = λ e. let z = no-bit any (get_or p i 0) e in longer ∙ ap (λ (l : List ℕ). l ++ get_or p i 0 ∷ []) (a.to z.0) ∙ ap (λ (x : ℕ). replicate i 0 ++ x ∷ []) z.1 ∙ sym last;
+      from = λ e.
+          let first : take i p ≡ replicate i 0 = sym (take-take i (i + 1) p (omega arith)) ∙ ap (take i) e ∙ take-replicate i (i + 1) 0 (omega arith) in
+          let here : get_or p i 0 ≡ 0 = sym (get_or-take (i + 1) p i 0 (omega arith)) ∙ ap (λ (l : List ℕ). get_or l i 0) e ∙ get_or-replicate (i + 1) i 0 0 (omega arith) in
+          ap (λ (x : ℕ). bit_or x (get_or p i 0)) (a.from first) ∙ ap (bit_or 0) here;
+    }
 
-  pub three-at : (x y z : ℕ) → Same (part b at 3 ≡ x ∷ y ∷ z ∷ []) (Three b at x y z)
-  three-at x y z = record {
-    to = λ e. record { first = byte e 0; second = byte e 1; third = byte e 2 };
-    from = λ h. three ∙ rw (h.first, h.second, h.third);
-  }
+pub nought-tells : (p : List ℕ) {i any : ℕ} → i ≡ length p → Nought p i any → Tells (eqb any 0) (p ≡ replicate (length p) 0)
+nought-tells p {i} {any} all a =
+    let whole : take i p ≡ p = take_all i p (omega arith) in
+    let size : replicate {A = ℕ} i 0 ≡ replicate (length p) 0 = ap (λ (k : ℕ). replicate {A = ℕ} k 0) all in
+    part-last (equal-tells any 0) (λ z. sym whole ∙ a.to z ∙ size) (λ e. a.from (whole ∙ e ∙ sym size))
 
--- ---- two lists, as a number stays 0 while they are alike: the first i bytes are alike exactly if it is 0
-abbrev pub Alike : List ℕ → List ℕ → ℕ → ℕ → Type 0
-Alike x y i other = Same (other ≡ 0) (take i x ≡ take i y)
-
-pub alike-none : (x y : List ℕ) → Alike x y 0 0
-alike-none x y = record { to = λ z. refl; from = λ z. refl }
-
-module _ (x y : List ℕ) (even : length x ≡ length y) (i : ℕ) where
-  -- alike as far as i + 1: as far as i, and at i
-  first : take (i + 1) x ≡ take (i + 1) y → take i x ≡ take i y
-  first e = sym (take-take i (i + 1) x (omega arith)) ∙ ap (take i) e ∙ take-take i (i + 1) y (omega arith)
-
-  here : take (i + 1) x ≡ take (i + 1) y → get_or x i 0 ≡ get_or y i 0
-  here e =
-      sym (get_or-take (i + 1) x i 0 (omega arith))
-      ∙ ap (λ (l : List ℕ). get_or l i 0) e
-      ∙ get_or-take (i + 1) y i 0 (omega arith)
-
-  more : i < length x → get_or x i 0 ≡ get_or y i 0 → take i x ≡ take i y → take (i + 1) x ≡ take (i + 1) y
-  more inx same e =
-      rw add-one
-      (take-suc x i 0 inx
-      ∙ ap (λ (l : List ℕ). l ++ get_or x i 0 ∷ []) e
-      ∙ ap (λ (v : ℕ). take i y ++ v ∷ []) same
-      ∙ sym (take-suc y i 0 (omega arith)))
-
-  pub alike-more : {other : ℕ} → i < length x → get_or x i 0 ≡ get_or y i 0 → Alike x y i other → Alike x y (i + 1) other
-  alike-more inx same a = record { to = λ z. more inx same (a.to z); from = λ e. a.from (first e) }
-
-  pub alike-never : {other : ℕ} → other ≡ 1 → (get_or x i 0 ≡ get_or y i 0 → ⊥) → Alike x y (i + 1) other
-  alike-never {other} one n = record { to = λ z. absurd (omega arith); from = λ e. absurd (n (here e)) }
-
-  pub alike-tells : {other : ℕ} → length x ≤ i → Alike x y i other → Tells (eqb other 0) (x ≡ y)
-  alike-tells {other} end a =
-      part-last
-      (equal-tells other 0)
-      (λ z. sym (take_all i x end) ∙ a.to z ∙ take_all i y (omega arith))
-      (λ e. a.from (ap (take i) e))
-
--- ---- the lists of a row
--- as the code cuts them
-module _ (p : List ℕ) {nr : ℕ} (r : nr ≡ get_or p 6 0) where
-  pub reads-cut : take (8 + nr - 8) (drop 8 p) ≡ (request_in p).reads
-  unfolding request_in
-  reads-cut = cut-part p 8 nr _ r
-
-  module _ {nw : ℕ} (w : nw ≡ get_or p 7 0) where
-    pub writes-cut : take (8 + nr + nw - (8 + nr)) (drop (8 + nr) p) ≡ (request_in p).writes
-    unfolding request_in
-    writes-cut = cut-part p (8 + nr) nw _ w ∙ ap (λ (n : ℕ). part p (8 + n) (get_or p 7 0)) r
-
-    -- what stands behind them
-    pub rest-cut : length p ≡ 24 → let rest = take (24 - (8 + nr + nw)) (drop (8 + nr + nw) p) in Same (rest ≡ replicate (length rest) 0) (RestZero p)
-    rest-cut whole =
-        let end = 8 + nr + nw in
-        let n = get_or p 6 0 + get_or p 7 0 in
-        let left = length-drop end p in
-        let all : take (24 - end) (drop end p) ≡ drop end p = take_all (24 - end) (drop end p) (omega arith) in
-        let same : end ≡ 8 + n = omega arith in
-        let here : take (24 - end) (drop end p) ≡ drop (8 + n) p = all ∙ ap (λ (k : ℕ). drop k p) same in
-        let size : length (take (24 - end) (drop end p)) ≡ 16 - n = ap length all ∙ omega arith in
-        let zeros = ap (λ (k : ℕ). replicate {A = ℕ} k 0) size in
-        record { to = λ z. sym here ∙ z ∙ zeros; from = λ z. here ∙ z ∙ sym zeros }
-
-pub row-clear : (p : List ℕ) → get_or p 3 0 ≤ 1 → is_blocked (request_in p).mode ≡ false
+-- ---- the lists of a row, as the code cuts them
+pub reads-cut : (p : List ℕ) → take (8 + get_or p 6 0 - 8) (drop 8 p) ≡ (request_in p).reads
 unfolding request_in
-row-clear p h = mode-clear (get_or p 3 0) h
+reads-cut p = cut-part p 8 (get_or p 6 0) _ refl
 
-pub row-blocked : (p : List ℕ) → 1 < get_or p 3 0 → is_blocked (request_in p).mode ≡ true
+pub writes-cut : (p : List ℕ) → take (8 + get_or p 6 0 + get_or p 7 0 - (8 + get_or p 6 0)) (drop (8 + get_or p 6 0) p) ≡ (request_in p).writes
 unfolding request_in
-row-blocked p h = ap is_blocked (mode-blocked (get_or p 3 0) (λ e. omega arith) (λ e. omega arith))
+writes-cut p = cut-part p (8 + get_or p 6 0) (get_or p 7 0) _ refl
+
+-- the code's test for Blocked tells whether the row's request is
+pub row-tested : (p : List ℕ) {m : Mode} {r t : Bool} → m ≡ mode_of (get_or p 3 0) → r ≡ sameb mode.the_type m Blocked → r ≡ t → is_blocked (request_in p).mode ≡ t
+unfolding request_in
+row-tested p {m} is told test = sym (ap is_blocked is) ∙ sym (blocked-told m) ∙ sym told ∙ test
 
 -- figure 2 looks at a request's lists alone
 pub figure2-lists : (x s : ℕ → ℕ) (e : Request) {reads writes : List ℕ} → reads ≡ e.reads → writes ≡ e.writes → figure2 x s (requested 0 0 0 reads writes) ≡ figure2 x s e

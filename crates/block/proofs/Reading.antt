@@ -17,7 +17,7 @@ use Rattle.block.specs.Bytes.{code, padded, entry_bytes, meter_bytes}
 use Rattle.entry.specs.declared.Entry.{Entry}
 use Rattle.entry.specs.Entry.{Kept, Stands}
 use Rattle.block.specs.Block.{flat, tab}
-use Rattle.block.specs.Clauses.{part, two_at, mode_of, request_in, meter_from, RestZero, ListsKeep}
+use Rattle.block.specs.Clauses.{part, mode_of, request_in, meter_from, RestZero, ListsKeep}
 use Rattle.block.proofs.Places.{tab-part}
 use Rattle.block.proofs.Writing.{padded-size}
 
@@ -133,7 +133,7 @@ filled-kept p at n {r} few room is =
 
 -- the entry of 24 bytes: its numbers are there, and its lists are kept
 pub entry-stands : (p : List ℕ) {e : Entry} → (length p ≡ 24) × (get_or p 6 0 ≤ 8) × (get_or p 7 0 ≤ 8)
-    → e.tenant ≡ get_or p 0 0 → e.serial ≡ two_at p 1 → e.mode ≡ mode_of (get_or p 3 0) → e.awaited ≡ get_or p 4 0 → e.due ≡ get_or p 5 0
+    → e.tenant ≡ get_or p 0 0 → e.serial ≡ (request_in p).serial → e.mode ≡ mode_of (get_or p 3 0) → e.awaited ≡ get_or p 4 0 → e.due ≡ get_or p 5 0
     → e.nr ≡ get_or p 6 0 → e.nw ≡ get_or p 7 0
     → Kept (part p 8 (get_or p 6 0)) e.reads → Kept (part p (8 + get_or p 6 0) (get_or p 7 0)) e.writes
     → Stands (request_in p) e

@@ -210,8 +210,13 @@ module _ (given : ℕ → ℕ) (last left : List ℕ) (ahead : List Request) (p 
           clear = InOrder.also (each_of request_in ps (each_map (λ x q. clear_of ahead e (request_in x) q) r.free)) r.clear;
         }
 
--- ---- the same of a row that is cut as the code cuts it
+-- ---- the same of the row that the code has
 module _ {p p' : List ℕ} (is : p ≡ p') where
+  -- its tenant's place, from 0
+  pub row-place : {k : ℕ} → k ≡ get_or p 0 0 → k - 1 ≡ (request_in p').tenant - 1
+  unfolding request_in
+  row-place {k} e = ap (λ (n : ℕ). n - 1) (e ∙ ap (λ (l : List ℕ). get_or l 0 0) is)
+
   pub raised_writes : {x x' : List ℕ} → Raised x (request_in p).writes x' → Raised x (request_in p').writes x'
   raised_writes {x} {x'} r = subst (λ (q : List ℕ). Raised x (request_in q).writes x') is r
 

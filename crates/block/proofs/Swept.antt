@@ -7,8 +7,8 @@ use mathlib.Core.Logic.{⊎_elim}
 use native.Mathlib.Omega.{arith}
 use native.Mathlib.Numerals.{add-one}
 use lib.Dec.{eqb, ltb}
-use lib.ListN.{length, get_or, take, drop, set, replicate, length-set, get_or-replicate, drop_of_length-le, get_or-eq_default}
-use lib.Seq.{take-suc, take_all, get_or-take, get_or-drop}
+use lib.ListN.{length, get_or, take, drop, set, replicate, length-drop, length-set, get_or-replicate, drop_of_length-le, get_or-eq_default}
+use lib.Seq.{length-take-le, take-suc, take_all, get_or-take, get_or-drop}
 use borrow.Author.Tests.{eqb-true}
 use Rattle.rules.specs.Lists.{some, count_if}
 use Rattle.rules.specs.Records.{member}
@@ -27,12 +27,13 @@ use Rattle.counters.proofs.Laws.{counts-none, counts-raised}
 use Rattle.block.specs.Block.{tab}
 use Rattle.block.specs.Clauses.{part, request_in, meter_from, meter_at, count_in, row_at, rows_in, queue_in, table_in, Counted, Same}
 use Rattle.block.specs.Check.{Tells, RowFits, QueueFits}
+use Rattle.block.proofs.Telling.{part-last}
 use Rattle.block.proofs.Places.{tab-length, tab-get, tab-of}
 use Rattle.rules.proofs.Order.{each_map}
 use Rattle.block.proofs.Each.{each_of, each-under}
 use Rattle.block.proofs.Back.{Small, small-part, small-each}
 use Rattle.block.proofs.Loading.{queue-length, queue-at}
-use Rattle.block.proofs.Sweep.{Clear, Rest, Follows, row-tenant, rest-fits, rest-clear, rest-follows, rest-tail, rest-cons}
+use Rattle.block.proofs.Sweep.{Clear, Rest, Follows, row-tenant, rest-fits, rest-clear, rest-follows, rest-tail, rest-cons, row-place, raised_writes, raised-reads, verdict-of}
 
 -- ---- what is asked at the start is what the clauses ask
 abbrev pub First : List ℕ → Type 0
@@ -120,11 +121,11 @@ pub record Swept (b : List ℕ) (i : ℕ) (last left x y : List ℕ) : Type 0 wh
   pub wide : length x ≡ 256
   pub wide' : length y ≡ 256
 
-pub swept_none : (b : List ℕ) {left : List ℕ} → length left ≡ 16 → left ≡ part b 3 16 → Swept b 0 (replicate 16 0) left (replicate 256 0) (replicate 256 0)
-swept_none b {left} size is = record {
+pub swept_none : (b : List ℕ) {left : List ℕ} → length b ≡ 2_176 → left ≡ part b 3 16 → Swept b 0 (replicate 16 0) left (replicate 256 0) (replicate 256 0)
+swept_none b {left} whole is = record {
   within = omega arith;
   last-size = refl;
-  left-size = size;
+  left-size = ap length is ∙ length-take-le 16 (drop 3 b) (omega (arith, length-drop 3 b));
   asks = rw is (record { to = λ r. r; from = λ r. r });
   writers = counts-none (λ e. e.writes);
   readers = counts-none (λ e. e.reads);
@@ -163,8 +164,8 @@ module _ {b : List ℕ} {i : ℕ} {last left x y : List ℕ} (s : Swept b i last
     asks-clear q = rest-clear given last left ahead p _ (now q)
 
     -- the numbers as the code has them at hand
-    pub follows-told : {r : Bool} {k serial to : ℕ} → k ≡ (request_in (row_at b i)).tenant - 1 → serial ≡ (request_in (row_at b i)).serial → to ≡ (meter_at b k).serials → Tells r ((get_or last k 0 < serial) × (serial ≤ to) × (0 < get_or left k 0)) → Tells r (Follows (given_by (table_in b)) last left (request_in (row_at b i)))
-    follows-told {r} {k} {serial} {to} place is known told =
+    follows-row : {r : Bool} {k serial to : ℕ} → k ≡ (request_in (row_at b i)).tenant - 1 → serial ≡ (request_in (row_at b i)).serial → to ≡ (meter_at b k).serials → Tells r ((get_or last k 0 < serial) × (serial ≤ to) × (0 < get_or left k 0)) → Tells r (Follows (given_by (table_in b)) last left (request_in (row_at b i)))
+    follows-row {r} {k} {serial} {to} place is known told =
         let known' : given_by (table_in b) (request_in p).tenant ≡ to = given_is b p fits ∙ ap (λ (j : ℕ). (meter_at b j).serials) (sym place) ∙ sym known in
         rw (known', ← place, ← is) told
 
@@ -192,16 +193,28 @@ module _ {b : List ℕ} {i : ℕ} {last left x y : List ℕ} (s : Swept b i last
       }
 
       -- the same, with the numbers as the code has them at hand
-      pub swept-more : {k serial : ℕ} → k ≡ (request_in (row_at b i)).tenant - 1 → serial ≡ (request_in (row_at b i)).serial → length x' ≡ 256 → length y' ≡ 256 → Follows (given_by (table_in b)) last left (request_in (row_at b i)) → Clear (take i (queue_in b)) (request_in (row_at b i)) → Swept b (i + 1) (set last k serial) (set left k (get_or left k 0 - 1)) x' y'
-      swept-more {k} {serial} place is w w' follows clear = rw (place, is) (swept-next w w' follows clear)
+      more-row : {k serial : ℕ} → k ≡ (request_in (row_at b i)).tenant - 1 → serial ≡ (request_in (row_at b i)).serial → length x' ≡ 256 → length y' ≡ 256 → Follows (given_by (table_in b)) last left (request_in (row_at b i)) → Clear (take i (queue_in b)) (request_in (row_at b i)) → Swept b (i + 1) (set last k serial) (set left k (get_or left k 0 - 1)) x' y'
+      more-row {k} {serial} place is w w' follows clear = rw (place, is) (swept-next w w' follows clear)
 
       -- figure 2 over the counters, its own counts being in, tells whether it conflicts with one ahead
-      pub verdict : Small (row_at b i) → {r : Bool} → r ≡ (is_blocked (request_in (row_at b i)).mode || not (figure2 (at x') (at y') (request_in (row_at b i)))) → Tells r (Clear (take i (queue_in b)) (request_in (row_at b i)))
-      verdict small {r} is =
+      verdict-row : Small (row_at b i) → {r : Bool} → r ≡ (is_blocked (request_in (row_at b i)).mode || not (figure2 (at x') (at y') (request_in (row_at b i)))) → Tells r (Clear (take i (queue_in b)) (request_in (row_at b i)))
+      verdict-row small {r} is =
           let e = request_in p in
           let l = ahead ++ e ∷ [] in
           let told : figure2 (at x') (at y') e ≡ conflicts_any ahead e = figure2-by x' y' l e (row_small p small).0 (row_small p small).1 writers-more.each readers-more.each ∙ figure2-conflicts ahead e fits.lists.lists in
           subst (λ (t : Bool). Tells t (Clear ahead e)) (sym (is ∙ ap (λ (c : Bool). is_blocked e.mode || not c) told)) (blocked-or (is_blocked e.mode) (conflicts_any ahead e))
+
+    -- the same of the row as the code has it
+    module _ {p' : List ℕ} (is : p' ≡ row_at b i) where
+      pub follows-told : {r : Bool} {k serial to : ℕ} → k ≡ get_or p' 0 0 → serial ≡ (request_in p').serial → to ≡ (meter_at b (k - 1)).serials → Tells r ((get_or last (k - 1) 0 < serial) × (serial ≤ to) × (0 < get_or left (k - 1) 0)) → Tells r (Follows (given_by (table_in b)) last left (request_in (row_at b i)))
+      follows-told place serial known told = follows-row (row-place is place) (rw is at serial) known told
+
+      module _ {x' y' : List ℕ} (up : Raised x (request_in p').writes x') (up' : Raised y (request_in p').reads y') where
+        pub verdict : Small (row_at b i) → {r : Bool} → r ≡ (is_blocked (request_in p').mode || not (figure2 (at x') (at y') (request_in p'))) → Tells r (Clear (take i (queue_in b)) (request_in (row_at b i)))
+        verdict small told = verdict-row (raised_writes is up) (raised-reads is up') small (verdict-of is x' y' told)
+
+        pub swept-more : {k serial : ℕ} → k ≡ get_or p' 0 0 → serial ≡ (request_in p').serial → length x' ≡ 256 → length y' ≡ 256 → Follows (given_by (table_in b)) last left (request_in (row_at b i)) → Clear (take i (queue_in b)) (request_in (row_at b i)) → Swept b (i + 1) (set last (k - 1) serial) (set left (k - 1) (get_or left (k - 1) 0 - 1)) x' y'
+        swept-more place serial w w' follows clear = more-row (raised_writes is up) (raised-reads is up') (row-place is place) (rw is at serial) w w' follows clear
 
 -- ---- at the end
 module _ {b : List ℕ} {i : ℕ} {last left x y : List ℕ} (s : Swept b i last left x y) (end : count_in b ≤ i) where
@@ -214,8 +227,15 @@ module _ {b : List ℕ} {i : ℕ} {last left x y : List ℕ} (s : Swept b i last
       let over : drop i (rows_in b) ≡ [] = drop_of_length-le (rows_in b) (let z : length (rows_in b) ≤ i = omega (arith, tab-length (row_at b) (count_in b)) in z) in
       s.asks.from (rw over (record { fits = none; past = none; known = none; rise = InOrder.none; room = λ who one. omega arith; free = none; clear = InOrder.none }))
 
-  pub swept-writers : x ≡ tab (cx (queue_in b)) 256
+  swept-writers : x ≡ tab (cx (queue_in b)) 256
   swept-writers = tab-of (cx (queue_in b)) 256 x s.wide (rw all at s.writers.each)
 
-  pub swept-readers : y ≡ tab (cs (queue_in b)) 256
+  swept-readers : y ≡ tab (cs (queue_in b)) 256
   swept-readers = tab-of (cs (queue_in b)) 256 y s.wide' (rw all at s.readers.each)
+
+  -- and what a comparison with the block's tells
+  pub writers-told : {r : Bool} → Tells r (x ≡ part b 121 256) → Tells r (part b 121 256 ≡ tab (cx (queue_in b)) 256)
+  writers-told t = part-last t (λ e. sym e ∙ swept-writers) (λ e. swept-writers ∙ sym e)
+
+  pub readers-told : {r : Bool} → Tells r (y ≡ part b 380 256) → Tells r (part b 380 256 ≡ tab (cs (queue_in b)) 256)
+  readers-told t = part-last t (λ e. sym e ∙ swept-readers) (λ e. swept-readers ∙ sym e)

@@ -1,20 +1,14 @@
 -- An answer tells whether something holds: the ways out of a function that tells, and what a call has told it.
-use Prim.Native.Nat.{ℕ, zero, suc, ◌≤◌, ◌<◌}
-use mathlib.Core.Path.{◌≡◌, refl, sym, ◌∙◌}
+use Prim.Native.Nat.{ℕ, ◌≤◌}
+use mathlib.Core.Path.{◌≡◌, sym}
 use mathlib.Core.Bool.{Bool, true, false, true≢false}
 use native.Mathlib.Omega.{arith}
-use lib.Dec.{eqb, ltb, leb}
-use borrow.Author.Tests.{eqb-true, eqb-false, ltb-true, ltb-false, leb-true, leb-false}
-use Rattle.rules.specs.declared.Mode.TheVariants.{Blocked}
-use Rattle.rules.specs.Request.{is_blocked}
-use Rattle.block.specs.Clauses.{mode_of}
+use lib.Dec.{eqb, leb}
+use borrow.Author.Tests.{eqb-true, eqb-false, leb-true, leb-false}
 use Rattle.block.specs.Check.{Tells}
 
 pub tells-no : {P : Type 0} → (P → ⊥) → Tells false P
 tells-no h = record { yes = λ z. absurd (true≢false (sym z)); other = λ z. h }
-
-pub test-tells : {r t : Bool} → r ≡ t → Tells r (t ≡ true)
-test-tells e = record { yes = λ y. sym e ∙ y; other = λ n t. true≢false (sym t ∙ sym e ∙ n) }
 
 -- ---- a call tells of a part
 module _ {r : Bool} {P : Type 0} (told : Tells r P) where
@@ -34,19 +28,5 @@ module _ {r : Bool} {P : Type 0} (told : Tells r P) where
 pub equal-tells : (a b : ℕ) → Tells (eqb a b) (a ≡ b)
 equal-tells a b = record { yes = eqb-true a b; other = eqb-false a b }
 
-pub below-tells : (a b : ℕ) → Tells (ltb a b) (a < b)
-below-tells a b = record { yes = ltb-true a b; other = λ n h. omega (arith, ltb-false a b n) }
-
 pub most-tells : (a b : ℕ) → Tells (leb a b) (a ≤ b)
 most-tells a b = record { yes = leb-true a b; other = λ n h. omega (arith, leb-false a b n) }
-
--- ---- states
-pub mode-blocked : (n : ℕ) → (n ≡ 0 → ⊥) → (n ≡ 1 → ⊥) → mode_of n ≡ Blocked
-mode-blocked zero a b = absurd (a refl)
-mode-blocked (suc zero) a b = absurd (b refl)
-mode-blocked (suc (suc n)) a b = refl
-
-pub mode-clear : (n : ℕ) → n ≤ 1 → is_blocked (mode_of n) ≡ false
-mode-clear zero h = refl
-mode-clear (suc zero) h = refl
-mode-clear (suc (suc n)) h = absurd (omega arith)

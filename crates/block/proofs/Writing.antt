@@ -1,17 +1,32 @@
 -- Bytes that are written from front to back: what stands before a place stays, and the new bytes stand behind it.
-use Prim.Native.Nat.{ℕ, ◌+◌, ◌-◌, ◌*◌, ◌≤◌, ◌<◌}
+use Prim.Native.Nat.{ℕ, ◌+◌, ◌-◌, ◌*◌, ◌/◌, ◌%◌, ◌^◌, ◌≤◌, ◌<◌}
 use mathlib.Core.Path.{◌≡◌, refl, sym, ap, ◌∙◌}
 use mathlib.Core.List.{List, [], ◌∷◌, ◌++◌, append_assoc, append-nil}
 use native.Mathlib.Omega.{arith}
 use native.Mathlib.Numerals.{add-one}
 use native.Mathlib.Nat.{zero-mul, add-mul, one-mul, add_assoc}
-use lib.ListN.{length, get_or, take, drop, replicate, length-append, length-replicate, replicate-append-replicate, take-append-drop}
+use lib.ListN.{length, get_or, take, drop, replicate, length-append, length-replicate, replicate-append-replicate, take-append-drop, length-drop, drop_of_length-le}
 use lib.Seq.{length-take-le, take-suc, paste, length-paste, take-paste, take-length, drop-append-add, take_all, take_at, drop_at}
-use Rattle.block.specs.Bytes.{padded}
+use Rattle.std.specs.Int.{w16, w32, to_be_bytes}
+use borrow.Rule.Slice.PartMut.{put_mid}
+use Rattle.block.specs.Bytes.{two, four, padded}
 use Rattle.block.specs.Block.{flat}
-use Rattle.block.proofs.Places.{take-replicate}
 
--- what stands up to the end of the new bytes
+-- ---- numbers, the high byte first
+pub two-bytes : (n : ℕ) → n < 2 ^ 16 → to_be_bytes w16 n ≡ two n
+two-bytes n fits =
+    let high : n / 256 % 256 ≡ n / 256 = omega arith in
+    rw high
+
+pub four-bytes : (n : ℕ) → n < 2 ^ 32 → to_be_bytes w32 n ≡ four n
+four-bytes n fits =
+    let a : n / 16777216 % 256 ≡ n / 65_536 / 256 = omega arith in
+    let b : n / 65_536 % 256 ≡ n / 65_536 % 256 = refl in
+    let c : n / 256 % 256 ≡ n % 65_536 / 256 = omega arith in
+    let d : n % 256 ≡ n % 65_536 % 256 = omega arith in
+    cc
+
+-- ---- what stands up to the end of the new bytes
 pub put_first : (b p : List ℕ) (at : ℕ) {b' : List ℕ} → at + length p ≤ length b → b' ≡ paste b at p (length p) → take (at + length p) b' ≡ take at b ++ p
 put_first b p at {b'} room is =
     ap (take (at + length p)) is ∙ take-paste b at p (length p) (omega arith) (omega arith) ∙ ap (λ (t : List ℕ). take at b ++ t) (take-length p)
@@ -95,27 +110,29 @@ module _ {A : Type 0} (f : A → List ℕ) (w base : ℕ) (l : List A) where
   unfolding flat
   rows_none b = record { size = refl; first = let e : base + 0 * w ≡ base = ap (λ (k : ℕ). base + k) (zero-mul w) ∙ (let h : base + 0 ≡ base = omega arith in h) in ap (λ (m : ℕ). take m b) e ∙ sym (append-nil (take base b)) }
 
-  pub rows_more : {b₀ b b' p : List ℕ} {i : ℕ} → Rows b₀ i b → (d : A) → i < length l → p ≡ f (get_or l i d) → length p ≡ w → length b' ≡ length b → take (base + i * w + length p) b' ≡ take (base + i * w) b ++ p → Rows b₀ (i + 1) b'
-  rows_more {b₀} {b} {b'} {p} {i} r d lt is width same put =
-      let m : base + (i + 1) * w ≡ base + i * w + length p = ap (λ (k : ℕ). base + k) (add-mul i 1 w ∙ ap (λ (k : ℕ). i * w + k) (one-mul w ∙ sym width)) ∙ sym (add_assoc base (i * w) (length p)) in
+  pub rows_more : {b₀ b b' p : List ℕ} {i : ℕ} → Rows b₀ i b → (at : ℕ) → at ≡ base + i * w → (d : A) → i < length l → p ≡ f (get_or l i d) → length p ≡ w → length b' ≡ length b → take (at + length p) b' ≡ take at b ++ p → Rows b₀ (i + 1) b'
+  rows_more {b₀} {b} {b'} {p} {i} r at place d lt is width same put =
+      let m : base + (i + 1) * w ≡ at + length p = ap (λ (k : ℕ). base + k) (add-mul i 1 w ∙ ap (λ (k : ℕ). i * w + k) (one-mul w ∙ sym width)) ∙ sym (add_assoc base (i * w) (length p)) ∙ ap (λ (k : ℕ). k + length p) (sym place) in
       record {
         size = same ∙ r.size;
-        first = ap (λ (k : ℕ). take k b') m ∙ put ∙ ap (λ (t : List ℕ). t ++ p) r.first ∙ append_assoc (take base b₀) (flat f (take i l)) p ∙ ap (λ (t : List ℕ). take base b₀ ++ t) (ap (λ (t : List ℕ). flat f (take i l) ++ t) is ∙ sym (flat-last f (take i l) (get_or l i d)) ∙ ap (flat f) (sym (take-suc l i d lt) ∙ ap (λ (k : ℕ). take k l) (sym (add-one i))));
+        first = ap (λ (k : ℕ). take k b') m ∙ put ∙ ap (λ (k : ℕ). take k b ++ p) place ∙ ap (λ (t : List ℕ). t ++ p) r.first ∙ append_assoc (take base b₀) (flat f (take i l)) p ∙ ap (λ (t : List ℕ). take base b₀ ++ t) (ap (λ (t : List ℕ). flat f (take i l) ++ t) is ∙ sym (flat-last f (take i l) (get_or l i d)) ∙ ap (flat f) (sym (take-suc l i d lt) ∙ ap (λ (k : ℕ). take k l) (sym (add-one i))));
       }
 
   -- the next element's bytes are put
-  pub rows-put : {b₀ b b' p : List ℕ} {i : ℕ} → Rows b₀ i b → (d : A) → i < length l → p ≡ f (get_or l i d) → length p ≡ w → base + i * w + length p ≤ length b → b' ≡ paste b (base + i * w) p (length p) → Rows b₀ (i + 1) b'
-  rows-put {b₀} {b} {b'} {p} {i} r d lt is width room put =
-      let same : length b' ≡ length b = ap length put ∙ length-paste b (base + i * w) p (length p) room (omega arith) in
-      rows_more r d lt is width same (put_first b p (base + i * w) room put)
+  pub rows-put : {b₀ b b' p : List ℕ} {i : ℕ} → Rows b₀ i b → (at : ℕ) → at ≡ base + i * w → (d : A) → i < length l → p ≡ f (get_or l i d) → length p ≡ w → at + length p ≤ length b → b' ≡ paste b at p (length p) → Rows b₀ (i + 1) b'
+  rows-put {b₀} {b} {b'} {p} {i} r at place d lt is width room put =
+      let same : length b' ≡ length b = ap length put ∙ length-paste b at p (length p) room (omega arith) in
+      rows_more r at place d lt is width same (put_first b p at room put)
 
--- ---- zeros up to the end
-pub zeros-size : (n k : ℕ) → n ≤ k → length {A = ℕ} (take n (replicate k 0)) ≡ n
-zeros-size n k h = ap length (take-replicate n k 0 h) ∙ length-replicate n 0
+  -- all of them are written
+  pub rows-all : {b₀ b : List ℕ} {i : ℕ} → Rows b₀ i b → (n : ℕ) → length l ≡ n → n ≤ i → i ≤ n → take (base + n * w) b ≡ take base b₀ ++ flat f l
+  rows-all {b₀} {b} {i} r n size past within =
+      let all : i ≡ n = omega arith in
+      let whole : length l ≤ n = omega arith in
+      rw (take_all n l whole) at (rw all at r.first)
 
-pub zeros-put : (b b' : List ℕ) (at n k : ℕ) → n ≤ k → length b ≡ at + n → b' ≡ paste b at (take n (replicate k 0)) (length {A = ℕ} (take n (replicate k 0))) → b' ≡ take at b ++ replicate n 0
-zeros-put b b' at n k h size put =
-    let z : List ℕ = take n (replicate k 0) in
-    let room : at + length z ≤ length b = rw (zeros-size n k h) (omega arith) in
-    let whole : length b' ≤ at + length z = rw (zeros-size n k h) (omega (arith, ap length put ∙ length-paste b at z (length z) room (omega arith))) in
-    sym (take_all (at + length z) b' whole) ∙ put_first b z at room put ∙ ap (λ (t : List ℕ). take at b ++ t) (take-replicate n k 0 h)
+-- ---- written over up to the end
+pub put-to-end : (b ys : List ℕ) (at : ℕ) {n : ℕ} → length b ≡ n → put_mid at (n - at) b ys ≡ take at b ++ ys
+put-to-end b ys at {n} whole =
+    let none : drop (n - at) (drop at b) ≡ [] = drop_of_length-le (drop at b) (omega (arith, whole, length-drop at b)) in
+    ap (λ (t : List ℕ). take at b ++ (ys ++ t)) none ∙ ap (λ (t : List ℕ). take at b ++ t) (append-nil ys)

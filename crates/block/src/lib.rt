@@ -6,4 +6,5 @@
 mod bytes;
 pub mod check;
 pub mod read;
+mod row;
 pub mod write;

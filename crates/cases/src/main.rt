@@ -10,11 +10,11 @@ use std::io::{Read, Write};
 use std::process::ExitCode;
 use std::{fs, io, str};
 
-// The last digit of a number, in ASCII.
+// The last digit of a number, in ASCII: there is no heap for a `format!`.
 fn digit(n: u8) -> u8
     ensures { result < 128 }
 {
-    48 + n % 10
+    b'0' + n % 10
 }
 
 // What is said where a listing cannot be written.
@@ -27,8 +27,7 @@ fn tell(rt: &impl Eprint) -> io::Result<()> {
 fn listed<R: Read, W: Write>(from: &mut R, to: &mut W) -> io::Result<bool> {
     let mut file = [0u8; 65537];
     let n = replay::input::read_full(from, &mut file)?;
-    let printed = replay::print::listing(to, &file[..n]);
-    Ok(printed.all)
+    Ok(replay::print::listing(to, &file[..n]).is_ok())
 }
 
 fn main(rt: HostRuntime) -> io::Result<ExitCode> {

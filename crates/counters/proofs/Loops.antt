@@ -7,7 +7,7 @@ use native.Mathlib.Numerals.{add-one}
 use native.Mathlib.Omega.{arith}
 use lib.Dec.{eqb, eqb-zero-suc, eqb-suc-zero, eqb-suc-suc}
 use lib.ListN.{length, get_or, take, drop, set, take-append-drop}
-use lib.Seq.{take-suc, take-take}
+use lib.Seq.{take-suc}
 use borrow.Author.Tests.{eq-eqb}
 use Rattle.rules.specs.Lists.{count_if}
 use Rattle.rules.proofs.Tests.{one}
@@ -34,11 +34,9 @@ occurs-next : (k : ℕ) (list : List ℕ) (i : ℕ) → i < length list → occu
 occurs-next k list i h =
     ap (λ (t : List ℕ). occurs k t) (rw (add-one i) (take-suc list i 0 h)) ∙ count-last (λ x. eqb x k) (take i list) (get_or list i 0)
 
-occurs-le : (k i n : ℕ) (list : List ℕ) → i ≤ n → occurs k (take i list) ≤ occurs k (take n list)
-occurs-le k i n list h =
-    let split : occurs k (take n list) ≡ occurs k (take i (take n list)) + occurs k (drop i (take n list)) = ap (λ (t : List ℕ). occurs k t) (sym (take-append-drop i (take n list))) ∙ count-append (λ x. eqb x k) (take i (take n list)) (drop i (take n list)) in
-    let same : take i (take n list) ≡ take i list = take-take i n list h in
-    let e : occurs k (take i (take n list)) ≡ occurs k (take i list) = ap (λ (t : List ℕ). occurs k t) same in
+occurs-le : (k i : ℕ) (list : List ℕ) → occurs k (take i list) ≤ occurs k list
+occurs-le k i list =
+    let split : occurs k list ≡ occurs k (take i list) + occurs k (drop i list) = ap (λ (t : List ℕ). occurs k t) (sym (take-append-drop i list)) ∙ count-append (λ x. eqb x k) (take i list) (drop i list) in
     omega arith
 
 -- ---- the loops
@@ -60,12 +58,11 @@ module _ (list : List ℕ) (i : ℕ) (there : i < length list) where
   }
 
   -- there is one to take
-  pub lowered-some : {c next : List ℕ} (n : ℕ) → Raised next (take i list) c → Stocked c (take n list) → i < n → get_or list i 0 < 256 → 0 < at next (get_or list i 0)
-  lowered-some {c} {next} n r s lt small =
+  pub lowered-some : {c next : List ℕ} → Raised next (take i list) c → Stocked c list → get_or list i 0 < 256 → 0 < at next (get_or list i 0)
+  lowered-some {c} {next} r s small =
       let x = get_or list i 0 in
       let own : one (eqb x x) ≡ 1 = rw (eq-eqb x x refl) refl in
-      let le : i + 1 ≤ n = omega arith in
-      omega (arith, r.each x small, s.each x small, occurs-next x list i there, occurs-le x (i + 1) n list le)
+      omega (arith, r.each x small, s.each x small, occurs-next x list i there, occurs-le x (i + 1) list)
 
 -- no counter overflows: it is below the bound and has risen by at most one for each record passed
 pub raised-fits : {c xs next : List ℕ} {bound : ℕ} → Raised c xs next → Under bound c → (k : ℕ) → k < 256 → at next k < bound + length xs

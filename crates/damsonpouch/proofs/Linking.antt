@@ -18,7 +18,7 @@ use Rattle.block.specs.Read.{Holds}
 use Rattle.block.proofs.Whole.{block-length, block-tells}
 use Rattle.damsonpouch.specs.declared.Reply.{Reply}
 use Rattle.damsonpouch.specs.declared.Held.{Held}
-use Rattle.damsonpouch.specs.Reply.{reply_of, refused15, held_reply, held15}
+use Rattle.damsonpouch.specs.Reply.{reply_of, refused15, held_reply}
 use Rattle.damsonpouch.specs.Linked.{On, Anew, Linked, Counted, OneResult, OneVerdict, OneCount}
 
 pub block-whole : {b : List ℕ} → SoundBlock b → length b ≡ 2_176
@@ -34,9 +34,6 @@ refused-linked none is = record {
   kept = λ z. refl;
   refused = λ z. is;
 }
-
-pub unsound-linked : {call : Table → Outcome} {b : List ℕ} {r : Reply} → (SoundBlock b → ⊥) → r ≡ refused15 → Linked (On call) b b r
-unsound-linked wrong is = refused-linked (λ o h. wrong (record { of = h.of; sound = h.sound; is = h.is })) is
 
 pub short-linked : {made : Outcome} {b : List ℕ} {r : Reply} → (length b ≡ 2_176 → ⊥) → r ≡ refused15 → Linked (Anew made) b b r
 short-linked wrong is = refused-linked (λ o h. wrong h.whole) is
@@ -60,9 +57,6 @@ pub opened-linked : (made : Outcome) {b b' : List ℕ} {n : State} {r : Reply} �
 opened-linked made whole did written said = done-linked (record { whole = whole; outcome = refl }) (λ p h. h.outcome) did written said
 
 -- ---- held
-pub unsound-counted : {b : List ℕ} {r : Held} → (SoundBlock b → ⊥) → r ≡ held15 → Counted b r
-unsound-counted wrong is = record { counts = λ t s e. absurd (wrong (record { of = t; sound = s; is = e })); refused = λ z. is }
-
 pub sound-counted : {b : List ℕ} {s : State} {r : Held} → Holds b s → r ≡ held_reply (held_of (view s)) → Counted b r
 sound-counted {b} {s} {r} holds is = record {
   counts = λ t sound e. is ∙ ap (λ (u : Table). held_reply (held_of u)) (block-tells (view s) t holds.sound.table sound (sym holds.is ∙ e));

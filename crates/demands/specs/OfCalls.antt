@@ -77,8 +77,8 @@ pub record ByTheRules (s : CodeStep) : Type 0 where
   pub exclusive : (r : ℕ) → r < 256 → at s.gave.cx r ≡ cx (view s.gave).queue r
   pub shared : (r : ℕ) → r < 256 → at s.gave.cs r ≡ cs (view s.gave).queue r
   -- document 02, item 5: "two maps of 256 bits, of records with Cx above 0 and with Cs above 0, right after every call"
-  pub written : (r : ℕ) → r < 256 → in_map s.gave.written r ≡ ltb 0 (cx (view s.gave).queue r)
-  pub read : (r : ℕ) → r < 256 → in_map s.gave.read r ≡ ltb 0 (cs (view s.gave).queue r)
+  pub written : (r : ℕ) → r < 256 → in_map s.gave.maps.written r ≡ ltb 0 (cx (view s.gave).queue r)
+  pub read : (r : ℕ) → r < 256 → in_map s.gave.maps.read r ≡ ltb 0 (cs (view s.gave).queue r)
 
 -- item 5: an admitted Begin is Blocked exactly if a record holds it up, and reports the lowest; no other call reports one
 abbrev pub Reporting : CodeStep → Type 0

@@ -1,4 +1,3 @@
 pub mod Typed
-pub mod Touches
-pub mod Ahead
 pub mod Sieving
+pub mod Lists

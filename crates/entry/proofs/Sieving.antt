@@ -2,7 +2,7 @@
 -- together the law book's list.
 use Rattle.std.specs.Prelude.{if◌then◌else◌}
 use Prim.Native.Nat.{ℕ, ◌+◌, ◌-◌, ◌≤◌, ◌<◌}
-use mathlib.Core.Path.{◌≡◌, refl, sym, ap, ◌∙◌}
+use mathlib.Core.Path.{◌≡◌, sym, ap, ◌∙◌}
 use mathlib.Core.Bool.{Bool, true, false, not}
 use mathlib.Core.List.{List, [], ◌∷◌, ◌++◌, append-nil, append_assoc}
 use native.Mathlib.Numerals.{add-one}
@@ -20,9 +20,6 @@ pub record Sifted (reads writes : List ℕ) (i k : ℕ) (array : List ℕ) : Typ
   pub whole : length array ≡ 8
   pub first : take k array ++ only_read (drop i reads) writes ≡ only_read reads writes
   pub rest : drop k array ≡ replicate (8 - k) 0
-
-pub sifted-start : (reads writes : List ℕ) → Sifted reads writes 0 0 (replicate 8 0)
-sifted-start reads writes = record { whole = refl; first = refl; rest = refl }
 
 module _ {reads writes : List ℕ} {i k : ℕ} {array : List ℕ} (s : Sifted reads writes i k array) (there : i < length reads) where
   -- the next read is put behind the others, or it is written and left out

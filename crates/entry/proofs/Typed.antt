@@ -1,12 +1,12 @@
--- What a value's type alone says of it: the lengths of its arrays and the range of its bytes. `c.good` of a function's
+-- What a value's type alone says of it: the lengths of its arrays and the range of its bytes. `c.well_formed` of a function's
 -- proof is such a fact of its parameters, and `.ok` of a call's result.
-use Prim.Native.Nat.{ℕ, zero, suc, ◌≤◌, ◌<◌, min}
-use mathlib.Core.Path.{◌≡◌, sym, ap, ◌∙◌}
+use Prim.Native.Nat.{ℕ, zero, suc, ◌<◌, ◌≤◌, min}
+use mathlib.Core.Path.{◌≡◌, sym}
 use mathlib.Core.List.{List, [], ◌∷◌}
 use native.Mathlib.Omega.{arith}
 use mathlib.Core.Logic.{⊎_elim}
 use lib.ListN.{length, get_or, take}
-use lib.Seq.{take_all, length-take-le}
+use lib.Seq.{length-take-le}
 use mir.Syntax.{w8}
 use mir.Val.{Val}
 use denote.Plain.{UInt}
@@ -18,7 +18,7 @@ use lib.Dec.{eqb}
 use borrow.Author.Tests.{eqb-true}
 use Rattle.rules.specs.Lists.{some}
 use Rattle.rules.specs.Records.{member}
-use Rattle.rules.proofs.Tests.{lt-or-ge, either}
+use Rattle.rules.proofs.Tests.{either}
 use Rattle.entry.specs.declared.Entry.{Entry}
 use Rattle.entry.specs.contracts.Entry as entry
 
@@ -44,17 +44,7 @@ pub record Lists (e : Entry) : Type 0 where
 pub entry-lists : (e : Entry) (vs : List Val) → Is entry.the_row e vs → Lists e
 entry-lists e vs p = record { reads = bytes 8 e.reads _ p.1.1.1.1.1.1.1.1.1.0; writes = bytes 8 e.writes _ p.1.1.1.1.1.1.1.1.1.1.0 }
 
--- the count clamped to 8 picks the same records
-pub few-take : (n few : ℕ) {xs : List ℕ} → Bytes 8 xs → few ≡ min n 8 → take few xs ≡ take n xs
-few-take n few {xs} b e = ⊎_elim
-    (λ (below : n < 8). let same : few ≡ n = omega arith in ap (λ (m : ℕ). take m xs) same)
-    (λ (past : 8 ≤ n).
-    let whole : length xs ≤ few = omega (arith, b.size) in
-    let long : length xs ≤ n = omega (arith, b.size) in
-    take_all few xs whole ∙ sym (take_all n xs long))
-    (lt-or-ge n 8)
-
--- and so many of the array there are
+-- the count clamped to 8 is of so many of an array
 pub few-size : (n few : ℕ) {xs : List ℕ} → Bytes 8 xs → few ≡ min n 8 → few ≡ length (take few xs)
 few-size n few {xs} b e = let room : few ≤ length xs = omega (arith, b.size) in sym (length-take-le few xs room)
 

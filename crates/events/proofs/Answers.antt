@@ -1,38 +1,62 @@
 -- Which answer a reading gives: the end, a refusal, or what a whole record is read as.
-use Rattle.std.specs.Prelude.{if◌then◌else◌}
+use Rattle.std.specs.Prelude.{if◌then◌else◌, Some}
 use Prim.Native.Nat.{ℕ, ◌≤◌, ◌<◌}
-use mathlib.Core.Path.{◌≡◌, refl, sym, ◌∙◌}
-use mathlib.Core.Bool.{Bool, true, false}
+use mathlib.Core.Path.{◌≡◌, sym, ◌∙◌}
+use mathlib.Core.Bool.{Bool}
 use mathlib.Core.List.{List}
-use lib.Dec.{eqb}
+use native.Mathlib.Omega.{arith}
 use lib.ListN.{length}
 use borrow.Author.Tests.{le-leb, lt-leb, ne_eqb}
 use Rattle.rules.specs.declared.Kind.{Kind}
+use Rattle.rules.specs.declared.Refusal.{Refusal}
+use Rattle.rules.specs.declared.Refusal.TheVariants.{NoTenant, Dry, TooMany, NotRising, TooManyAwaited, NoPlace, NoSerial, TooDear, Absent, WrongState, NothingDue, TooMuchFuel, WrongShares, UnsoundBlock, UnknownTag, PastTheEnd, UnsuitedLength, Misplaced, TooLong}
+use Rattle.rules.specs.Numbers.{number_of}
 use Rattle.rules.specs.Refusals.{first_of}
-use Rattle.events.specs.declared.Tagged.TheVariants.{Known}
+use Rattle.rules.specs.Tags.{kind_of}
 use Rattle.events.specs.declared.Next.{Next}
-use Rattle.events.specs.Events.{tag_at, kind_of, misplaced, record_rows, file_rows, read_as, record_at}
+use Rattle.events.specs.Events.{tag_at, misplaced, record_rows, file_rows, read_as, record_at, Whole}
 use Rattle.events.proofs.Rows.{file-broken, file-whole}
 
+-- no refusal has the number 0
+pub numbered : (why : Refusal) → 0 < number_of why
+numbered NoTenant = omega arith
+numbered Dry = omega arith
+numbered TooMany = omega arith
+numbered NotRising = omega arith
+numbered TooManyAwaited = omega arith
+numbered NoPlace = omega arith
+numbered NoSerial = omega arith
+numbered TooDear = omega arith
+numbered Absent = omega arith
+numbered WrongState = omega arith
+numbered NothingDue = omega arith
+numbered TooMuchFuel = omega arith
+numbered WrongShares = omega arith
+numbered UnsoundBlock = omega arith
+numbered UnknownTag = omega arith
+numbered PastTheEnd = omega arith
+numbered UnsuitedLength = omega arith
+numbered Misplaced = omega arith
+numbered TooLong = omega arith
+
 module _ (file : List ℕ) (at : ℕ) (first : Bool) where
+  -- ---- the rows with 23 behind
+  pub broken-rows : (why : Refusal) → number_of why ≡ first_of (record_rows file at) → number_of why ≡ first_of (file_rows file at first)
+  broken-rows why e = e ∙ sym (file-broken file at first (λ z. omega (arith, e, numbered why)))
+
+  pub whole-rows : {k : Kind} {b : Bool} → 0 ≡ first_of (record_rows file at) → Whole file at k → misplaced (Some k) first ≡ b → (if b then 23 else 0) ≡ first_of (file_rows file at first)
+  whole-rows z w m = sym (rw (w.tag, m) at (file-whole file at first (sym z)))
+
+  -- ---- the reading
   pub at-end : length file ≤ at → record_at file at first ≡ Next.End
   unfolding record_at
   at-end h = simp (le-leb (length file) at h)
 
   module _ (h : at < length file) where
-    pub at-refusal : {number : ℕ} → number ≡ first_of (record_rows file at) → (number ≡ 0 → ⊥) → record_at file at first ≡ Next.Refused number
+    pub at-refusal : (why : Refusal) → number_of why ≡ first_of (file_rows file at first) → record_at file at first ≡ Next.Refused (number_of why)
     unfolding record_at
-    at-refusal {number} e n =
-        let same : first_of (file_rows file at first) ≡ number = file-broken file at first (λ z. n (e ∙ z)) ∙ sym e in
-        simp (lt-leb (length file) at h, same, ne_eqb number 0 n)
+    at-refusal why e = simp (lt-leb (length file) at h, sym e, ne_eqb (number_of why) 0 (λ z. omega (arith, z, numbered why)))
 
-    -- 23, or the record itself
-    misplaced-or : (b : Bool) (next : Next) (number : ℕ) → number ≡ (if b then 23 else 0) → (if eqb number 0 then next else Next.Refused number) ≡ (if b then Next.Refused 23 else next)
-    misplaced-or true next number e = rw e refl
-    misplaced-or false next number e = rw e refl
-
-    pub at-whole : {k : Kind} → first_of (record_rows file at) ≡ 0 → kind_of (tag_at file at) ≡ Known k → record_at file at first ≡ (if misplaced (Known k) first then Next.Refused 23 else read_as (Known k) file at)
+    pub at-whole : 0 ≡ first_of (file_rows file at first) → record_at file at first ≡ read_as (kind_of (tag_at file at)) file at
     unfolding record_at
-    at-whole {k} z e =
-        let number : first_of (file_rows file at first) ≡ (if misplaced (Known k) first then 23 else 0) = rw e at (file-whole file at first z) in
-        simp (lt-leb (length file) at h, e) (misplaced-or (misplaced (Known k) first) (read_as (Known k) file at) (first_of (file_rows file at first)) number)
+    at-whole z = simp (lt-leb (length file) at h, sym z)

@@ -1,5 +1,5 @@
--- The body of a whole record: how long it is, and what its bytes say, by their places in the file.
-use Prim.Native.Nat.{ℕ, ◌+◌, ◌-◌, ◌≤◌, ◌<◌}
+-- The body of a whole record with lists: how long it is, and where its lists stand in the file.
+use Prim.Native.Nat.{ℕ, ◌+◌, ◌-◌, ◌≤◌}
 use mathlib.Core.Path.{◌≡◌, ap, ◌∙◌}
 use mathlib.Core.Bool.{true}
 use mathlib.Core.List.{List}
@@ -7,13 +7,12 @@ use native.Mathlib.Omega.{arith}
 use lib.Dec.{leb}
 use lib.ListN.{take, drop}
 use lib.Seq.{take-take}
-use borrow.Author.Tests.{eqb-true, leb-true}
+use borrow.Author.Tests.{leb-true}
 use Rattle.rules.specs.declared.Kind.{Kind}
-use Rattle.rules.specs.CallTable.{Body, bytes, lists, row_of}
-use Rattle.rules.specs.Runs.{event}
+use Rattle.rules.specs.CallTable.{Body, lists, row_of}
 use Rattle.rules.proofs.Tests.{both}
-use Rattle.events.specs.Events.{byte_at, two_at, four_at, length_at, body_at, count_in, fits, Whole}
-use Rattle.events.proofs.Parts.{byte-of-part, two-of-part, four-of-part, rest-of-part, third-byte}
+use Rattle.events.specs.Events.{byte_at, length_at, body_at, count_in, fits, Whole}
+use Rattle.events.proofs.Parts.{rest-of-part, third-byte}
 
 pub same_body : {k kind : Kind} → k ≡ kind → (row_of k).body ≡ (row_of kind).body
 same_body e = ap (λ (x : Kind). (row_of x).body) e
@@ -26,10 +25,7 @@ module _ {file : List ℕ} {at : ℕ} {k : Kind} (w : Whole file at k) where
   suits-as : (b : Body) → (row_of k).body ≡ b → fits b (length_at file at) (count_in body) ≡ true
   suits-as b e = rw e at w.suited
 
-  pub has-bytes : (n : ℕ) → (row_of k).body ≡ bytes n → length_at file at ≡ n
-  has-bytes n e = eqb-true (length_at file at) n (suits-as (bytes n) e)
-
-  -- and with lists: the head of three bytes, and r reads
+  -- the head of three bytes, and r reads
   pub has-head : (row_of k).body ≡ lists → 3 ≤ length_at file at
   has-head e = leb-true 3 (length_at file at) (both (leb 3 (length_at file at)) (leb (count_in body) (length_at file at - 3)) (suits-as lists e)).0
 
@@ -40,31 +36,6 @@ module _ {file : List ℕ} {at : ℕ} {k : Kind} (w : Whole file at k) where
   has-reads e =
       let n = length_at file at in
       rw (count-is e) at (leb-true (count_in body) (n - 3) (both (leb 3 n) (leb (count_in body) (n - 3)) (suits-as lists e)).1)
-
-  -- ---- its numbers
-  tenant-byte : 1 ≤ length_at file at → byte_at body 0 ≡ byte_at file (at + 3)
-  tenant-byte h = byte-of-part file (at + 3) (length_at file at) 0 (at + 3) h (omega arith)
-
-  pub tenant-event : (row_of k).body ≡ bytes 1 → event k (byte_at body 0) 0 0 0 ≡ event k (byte_at file (at + 3)) 0 0 0
-  tenant-event e = ap (λ (t : ℕ). event k t 0 0 0) (tenant-byte (omega (arith, has-bytes 1 e)))
-
-  pub entry-event : (row_of k).body ≡ bytes 3 → event k (byte_at body 0) 0 (two_at body 1) 0 ≡ event k (byte_at file (at + 3)) 0 (two_at file (at + 4)) 0
-  entry-event e =
-      let n = has-bytes 3 e in
-      let h : 1 + 1 < length_at file at = omega arith in
-      cc (tenant-byte (omega arith), two-of-part file (at + 3) (length_at file at) 1 (at + 4) h (omega arith))
-
-  pub amount-event : (row_of k).body ≡ bytes 5 → event k (byte_at body 0) 0 0 (four_at body 1) ≡ event k (byte_at file (at + 3)) 0 0 (four_at file (at + 4))
-  amount-event e =
-      let n = has-bytes 5 e in
-      let h : 1 + 3 < length_at file at = omega arith in
-      cc (tenant-byte (omega arith), four-of-part file (at + 3) (length_at file at) 1 (at + 4) h (omega arith))
-
-  pub lists-event : (row_of k).body ≡ lists → event k (byte_at body 0) (byte_at body 1) 0 0 ≡ event k (byte_at file (at + 3)) (byte_at file (at + 4)) 0 0
-  lists-event e =
-      let n = has-head e in
-      let h : 1 < length_at file at = omega arith in
-      cc (tenant-byte (omega arith), byte-of-part file (at + 3) (length_at file at) 1 (at + 4) h (omega arith))
 
   -- ---- its lists
   pub reads-are : (row_of k).body ≡ lists → take (count_in body) (drop 3 body) ≡ take (byte_at file (at + 5)) (drop (at + 6) file)

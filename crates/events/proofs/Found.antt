@@ -13,13 +13,12 @@ use Rattle.rules.specs.declared.Kind.{Kind}
 use Rattle.rules.specs.declared.Event.{Event}
 use Rattle.rules.specs.Refusals.{first_of}
 use Rattle.rules.specs.Runs.{Call, event_of}
-use Rattle.events.specs.declared.Tagged.{Tagged}
-use Rattle.events.specs.declared.Tagged.TheVariants.{Known, Unknown}
+use Rattle.std.specs.Prelude.{Option, Some, None}
 use Rattle.events.specs.declared.Next.{Next}
-use Rattle.events.specs.Events.{tag_at, body_at, next_at, kind_of, record_rows, file_rows, call_of, call_at, read_as, record_at, Part, within, shares_part, reads_part, writes_part, standing, opens, has_lists, Whole}
-use Rattle.events.proofs.Bodies.{reads-are, writes_are}
+use Rattle.rules.specs.Tags.{kind_of}
+use Rattle.events.specs.Events.{tag_at, body_at, next_at, record_rows, file_rows, call_of, call_at, read_as, record_at, within, shares_part, reads_part, writes_part, standing, Whole}
 use Rattle.events.proofs.Rows.{whole, stands, file-broken}
-use Rattle.events.proofs.Readers.{shares-stand, reads-stand, writes-stand}
+use Rattle.events.proofs.Readers.{its_shares, its_reads, its_writes}
 use Rattle.events.proofs.Answers.{at-end}
 
 -- an event was read, and n is where the next record begins
@@ -50,7 +49,7 @@ module _ (file : List ℕ) (at : ℕ) (first : Bool) where
   abbrev number : ℕ
   number = first_of (file_rows file at first)
 
-  abbrev answer : Bool → Bool → Tagged → Next
+  abbrev answer : Bool → Bool → Option Kind → Next
   answer past none kind =
       if past then Next.End else
       if none then read_as kind file at else
@@ -68,11 +67,11 @@ module _ (file : List ℕ) (at : ℕ) (first : Bool) where
   unfolding record_at
   found {e} {n} q = go (leb (length file) at) (eqb number 0) refl (kind_of (tag_at file at)) refl q
     where
-      go : (past none : Bool) → eqb number 0 ≡ none → (kind : Tagged) → kind_of (tag_at file at) ≡ kind → answer past none kind ≡ Next.Call e n → Found file at e n
+      go : (past none : Bool) → eqb number 0 ≡ none → (kind : Option Kind) → kind_of (tag_at file at) ≡ kind → answer past none kind ≡ Next.Call e n → Found file at e n
       go true none z kind t q = never (cc)
-      go false true z Unknown t q = never (cc)
+      go false true z None t q = never (cc)
       go false false z kind t q = never (cc)
-      go false true z (Known k) t q =
+      go false true z (Some k) t q =
           let is : e ≡ event_of (call_of k (body_at file at)) = cc in
           let same : e.kind ≡ k = ap (λ (x : Event). x.kind) is ∙ kind-back k (body_at file at) in
           let fine = unharmed (eqb-true number 0 z) in
@@ -82,10 +81,10 @@ module _ (file : List ℕ) (at : ℕ) (first : Bool) where
   unfolding record_at
   ended q = go (leb (length file) at) refl (eqb number 0) (kind_of (tag_at file at)) q
     where
-      go : (past : Bool) → leb (length file) at ≡ past → (none : Bool) (kind : Tagged) → answer past none kind ≡ Next.End → length file ≤ at
+      go : (past : Bool) → leb (length file) at ≡ past → (none : Bool) (kind : Option Kind) → answer past none kind ≡ Next.End → length file ≤ at
       go true p none kind q = leb-true (length file) at p
-      go false p true (Known k) q = never (cc)
-      go false p true Unknown q = never (cc)
+      go false p true (Some k) q = never (cc)
+      go false p true None q = never (cc)
       go false p false kind q = never (cc)
 
   -- the end, exactly where nothing is left
@@ -112,7 +111,7 @@ module _ {file : List ℕ} {at : ℕ} {e : Event} {n : ℕ} (f : Found file at e
   pub onward : at < n
   onward = omega (arith, f.next)
 
-  stands-as : standing file at ≡ Known e.kind
+  stands-as : standing file at ≡ Some e.kind
   stands-as = stands file at f.unharmed ∙ f.whole.tag
 
   -- by its kind
@@ -126,19 +125,16 @@ module _ {file : List ℕ} {at : ℕ} {e : Event} {n : ℕ} (f : Found file at e
     whole-as : Whole file at k
     whole-as = subst (Whole file at) is f.whole
 
-    known_as : standing file at ≡ Known k
-    known_as = stands-as ∙ ap Known is
+    known_as : standing file at ≡ Some k
+    known_as = stands-as ∙ ap Some is
 
   pub call-of : (k : Kind) → e.kind ≡ k → call_at file at e ≡ with_parts file at k e
   unfolding call_of
-  call-of Kind.Open is = of-kind Kind.Open is ∙ ap (λ (p : Part). Call.Open (within file p)) (sym (shares-stand file at (ap opens (known_as Kind.Open is))))
+  call-of Kind.Open is = of-kind Kind.Open is ∙ ap Call.Open (its_shares (whole-as Kind.Open is) f.unharmed refl)
   call-of Kind.Grant is = of-kind Kind.Grant is ∙ cc (ap (λ (x : Event). x.tenant) (says Kind.Grant is), ap (λ (x : Event). x.amount) (says Kind.Grant is))
   call-of Kind.Begin is =
       let w = whole-as Kind.Begin is in
-      let lists = ap has_lists (known_as Kind.Begin is) in
-      let reads = reads-are w refl ∙ sym (ap (within file) (reads-stand file at lists)) in
-      let writes = writes_are w refl ∙ sym (ap (within file) (writes-stand file at lists)) in
-      of-kind Kind.Begin is ∙ cc (ap (λ (x : Event). x.tenant) (says Kind.Begin is), ap (λ (x : Event). x.awaited) (says Kind.Begin is), reads, writes)
+      of-kind Kind.Begin is ∙ cc (ap (λ (x : Event). x.tenant) (says Kind.Begin is), ap (λ (x : Event). x.awaited) (says Kind.Begin is), its_reads w f.unharmed refl, its_writes w f.unharmed refl)
   call-of Kind.Finish is = of-kind Kind.Finish is ∙ cc (ap (λ (x : Event). x.tenant) (says Kind.Finish is), ap (λ (x : Event). x.serial) (says Kind.Finish is))
   call-of Kind.Recheck is = of-kind Kind.Recheck is ∙ cc (ap (λ (x : Event). x.tenant) (says Kind.Recheck is), ap (λ (x : Event). x.serial) (says Kind.Recheck is))
   call-of Kind.Scan is = of-kind Kind.Scan is ∙ cc (ap (λ (x : Event). x.tenant) (says Kind.Scan is))

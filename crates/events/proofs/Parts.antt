@@ -6,7 +6,7 @@ use native.Mathlib.Nat.{zero-add, suc-add}
 use native.Mathlib.Omega.{arith}
 use lib.ListN.{take, drop}
 use lib.Seq.{get_or-take, get_or-drop, drop-drop, take-nil}
-use Rattle.events.specs.Events.{byte_at, two_at, four_at, count_in}
+use Rattle.events.specs.Events.{byte_at, count_in}
 
 -- ---- a part of a part
 drop-take : (m n : ℕ) (l : List ℕ) → drop m (take (m + n) l) ≡ take n (drop m l)
@@ -18,19 +18,6 @@ drop-take (suc m) n (x ∷ xs) = ap (λ (k : ℕ). drop (suc m) (take k (x ∷ x
 module _ (file : List ℕ) (a n : ℕ) where
   pub byte-of-part : (i j : ℕ) → i < n → a + i ≡ j → byte_at (take n (drop a file)) i ≡ byte_at file j
   byte-of-part i j h e = get_or-take n (drop a file) i 0 h ∙ get_or-drop a file i 0 ∙ ap (λ (k : ℕ). byte_at file k) e
-
-  pub two-of-part : (i j : ℕ) → i + 1 < n → a + i ≡ j → two_at (take n (drop a file)) i ≡ two_at file j
-  two-of-part i j h e =
-      let hi : i < n = omega arith in
-      let next : a + (i + 1) ≡ j + 1 = omega arith in
-      cc (byte-of-part i j hi e, byte-of-part (i + 1) (j + 1) h next)
-
-  pub four-of-part : (i j : ℕ) → i + 3 < n → a + i ≡ j → four_at (take n (drop a file)) i ≡ four_at file j
-  four-of-part i j h e =
-      let hi : i + 1 < n = omega arith in
-      let lo : i + 2 + 1 < n = omega arith in
-      let next : a + (i + 2) ≡ j + 2 = omega arith in
-      cc (two-of-part i j hi e, two-of-part (i + 2) (j + 2) lo next)
 
   pub rest-of-part : (m j : ℕ) → m ≤ n → a + m ≡ j → drop m (take n (drop a file)) ≡ take (n - m) (drop j file)
   rest-of-part m j h e =

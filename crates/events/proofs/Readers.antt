@@ -1,65 +1,39 @@
--- The parts that the readers hand back: where a record of the right kind stands whole, and where none does.
-use Prim.Native.Nat.{ℕ, ◌+◌, ◌-◌, ◌≤◌}
-use mathlib.Core.Path.{◌≡◌, refl, sym, ◌∙◌}
-use mathlib.Core.Bool.{true, false, not}
+-- The parts that the readers hand back: the body of a whole record, or its lists.
+use Prim.Native.Nat.{ℕ, ◌+◌}
+use mathlib.Core.Path.{◌≡◌, refl, sym, ap, ◌∙◌}
+use mathlib.Core.Bool.{true, false}
 use mathlib.Core.List.{List}
-use lib.ListN.{length}
-use borrow.Author.Tests.{not-true, not-false}
-use Rattle.events.specs.declared.Shape.{Shape}
-use Rattle.events.specs.Events.{byte_at, length_at, next_at, standing, opens, has_lists, part, shares_part, reads_part, writes_part, Stands}
-use Rattle.events.proofs.Rows.{opening, listed}
-use Rattle.events.proofs.Bodies.{has-head, has-reads}
+use lib.ListN.{length, take, drop}
+use Rattle.rules.specs.declared.Kind.{Kind}
+use Rattle.rules.specs.CallTable.{lists, row_of, is_opening}
+use Rattle.rules.specs.Refusals.{first_of}
+use Rattle.events.specs.Events.{body_at, count_in, record_rows, standing, is_lists, has_lists, part, within, shares_part, reads_part, writes_part, Whole}
+use Rattle.events.proofs.Rows.{stands}
+use Rattle.events.proofs.Bodies.{count-is, reads-are, writes_are}
 
+module _ {file : List ℕ} {at : ℕ} {k : Kind} (w : Whole file at k) (z : first_of (record_rows file at) ≡ 0) where
+  pub its_shares : is_opening (row_of k).role ≡ true → body_at file at ≡ within file (shares_part file at)
+  unfolding shares_part
+  its_shares o = rw (stands file at z, w.tag, o) refl
+
+  module _ (l : (row_of k).body ≡ lists) where
+    listed : has_lists (standing file at) ≡ true
+    listed = ap has_lists (stands file at z ∙ w.tag) ∙ ap is_lists l
+
+    pub its_reads : take (count_in (body_at file at)) (drop 3 (body_at file at)) ≡ within file (reads_part file at)
+    unfolding reads_part
+    its_reads = reads-are w l ∙ sym (rw listed refl)
+
+    pub its_writes : drop (3 + count_in (body_at file at)) (body_at file at) ≡ within file (writes_part file at)
+    unfolding writes_part
+    its_writes = writes_are w l ∙ sym (rw listed refl)
+
+    pub writes-from : (writes_part file at).from ≡ at + 6 + count_in (body_at file at)
+    unfolding writes_part
+    writes-from = rw listed (ap (λ (c : ℕ). at + 6 + c) (sym (count-is w l)))
+
+-- where no record of the right kind stands
 module _ (file : List ℕ) (at : ℕ) where
-  pub no-shares : opens (standing file at) ≡ false → shares_part file at ≡ part (length file) 0
-  unfolding shares_part
-  no-shares e = rw e refl
-
-  pub shares-stand : opens (standing file at) ≡ true → shares_part file at ≡ part (at + 3) (length_at file at)
-  unfolding shares_part
-  shares-stand e = rw e refl
-
   pub no_reads : has_lists (standing file at) ≡ false → reads_part file at ≡ part (length file) 0
   unfolding reads_part
   no_reads e = rw e refl
-
-  pub reads-stand : has_lists (standing file at) ≡ true → reads_part file at ≡ part (at + 6) (byte_at file (at + 5))
-  unfolding reads_part
-  reads-stand e = rw e refl
-
-  pub no_writes : has_lists (standing file at) ≡ false → writes_part file at ≡ part (length file) 0
-  unfolding writes_part
-  no_writes e = rw e refl
-
-  pub writes-stand : has_lists (standing file at) ≡ true → writes_part file at ≡ part (at + 6 + byte_at file (at + 5)) (length_at file at - 3 - byte_at file (at + 5))
-  unfolding writes_part
-  writes-stand e = rw e refl
-
-  -- a record with lists lies within the file
-  pub record Inside : Type 0 where
-    pub body : next_at file at ≤ length file
-    pub head : 3 ≤ length_at file at
-    pub reads : byte_at file (at + 5) ≤ length_at file at - 3
-
-  -- by the row that the code found
-  module _ {r : Shape} (s : Stands (standing file at) r) where
-    pub opening-as : not r.opens ≡ false → opens (standing file at) ≡ true
-    opening-as e = sym s.opens ∙ not-false r.opens e
-
-    pub opening-not : not r.opens ≡ true → opens (standing file at) ≡ false
-    opening-not e = sym s.opens ∙ not-true r.opens e
-
-    pub listed-as : not r.lists ≡ false → has_lists (standing file at) ≡ true
-    listed-as e = sym s.lists ∙ not-false r.lists e
-
-    pub listed-not : not r.lists ≡ true → has_lists (standing file at) ≡ false
-    listed-not e = sym s.lists ∙ not-true r.lists e
-
-    -- they lie within the file
-    pub shares-inside : not r.opens ≡ false → next_at file at ≤ length file
-    shares-inside e = (opening file at (opening-as e)).whole.inside
-
-    pub lists-inside : not r.lists ≡ false → Inside
-    lists-inside e =
-        let l = listed file at (listed-as e) in
-        record { body = l.whole.inside; head = has-head l.whole l.lists; reads = has-reads l.whole l.lists }

@@ -6,17 +6,17 @@ use mathlib.Core.Bool.{Bool, true, false, not}
 use mathlib.Core.List.{List, [], ◌∷◌, ◌++◌}
 use native.Mathlib.Omega.{arith}
 use lib.Dec.{eqb}
-use lib.ListN.{length, take, drop}
-use borrow.Author.Tests.{lt-ltb, le-ltb, ltb-false, eq-eqb, eqb-true, ne_eqb, not-true, not-false}
+use lib.ListN.{length, take, drop, length-take, length-drop}
+use borrow.Author.Tests.{lt-ltb, le-ltb, ltb-false, eq-eqb, ne_eqb, not-true, not-false}
 use Rattle.rules.specs.declared.Kind.{Kind}
 use Rattle.rules.specs.Lists.{every}
-use Rattle.rules.specs.CallTable.{Body, bytes, lists, row_of, is_opening}
+use Rattle.rules.specs.CallTable.{row_of}
 use Rattle.rules.specs.Refusals.{Row, first_of}
-use Rattle.rules.proofs.Tests.{both, if-cases}
+use Rattle.rules.proofs.Tests.{both}
 use Rattle.rules.proofs.Refusals.{pass}
-use Rattle.events.specs.declared.Tagged.{Tagged}
-use Rattle.events.specs.declared.Tagged.TheVariants.{Known, Unknown}
-use Rattle.events.specs.Events.{tag_at, length_at, body_at, next_at, count_in, is_tag, kind_of, fits, misplaced, body_rows, record_rows, file_rows, standing, opens, is_lists, has_lists, Whole}
+use Rattle.std.specs.Prelude.{Some, None}
+use Rattle.rules.specs.Tags.{kind_of}
+use Rattle.events.specs.Events.{tag_at, length_at, body_at, next_at, count_in, is_tag, fits, misplaced, body_rows, record_rows, file_rows, standing, Whole}
 use Rattle.events.proofs.Tags.{unknown-tag}
 
 module _ (file : List ℕ) (at : ℕ) where
@@ -25,19 +25,21 @@ module _ (file : List ℕ) (at : ℕ) where
     abbrev suited : Bool
     suited = fits (row_of k).body (length_at file at) (count_in (body_at file at))
 
-    -- the code's count and length are the record's
-    pub suited-as : {b : Bool} {n r : ℕ} → n ≡ length_at file at → r ≡ count_in (take n (drop (at + 3) file)) → b ≡ fits (row_of k).body n r → b ≡ suited
-    suited-as e h f = cc
+    -- so many bytes behind the head are the record's body
+    pub suited-as : {b : Bool} {n : ℕ} → n ≡ length_at file at → next_at file at ≤ length file → b ≡ fits (row_of k).body (length (take n (drop (at + 3) file))) (count_in (take n (drop (at + 3) file))) → suited ≡ b
+    suited-as {b} {n} e inside f =
+        let long : length (take n (drop (at + 3) file)) ≡ n = simp (length-take, length-drop) (omega arith) in
+        sym (f ∙ cc (e, long))
 
-    pub no_body : length file < next_at file at → first_of (body_rows file at (Known k)) ≡ 21
+    pub no_body : length file < next_at file at → first_of (body_rows file at (Some k)) ≡ 21
     unfolding body_rows first_of
     no_body h = simp (lt-ltb (length file) (next_at file at) h)
 
-    pub no-fit : next_at file at ≤ length file → suited ≡ false → first_of (body_rows file at (Known k)) ≡ 22
+    pub no-fit : next_at file at ≤ length file → suited ≡ false → first_of (body_rows file at (Some k)) ≡ 22
     unfolding body_rows first_of
     no-fit h f = simp (le-ltb (length file) (next_at file at) h, f)
 
-    pub body-whole : next_at file at ≤ length file → suited ≡ true → first_of (body_rows file at (Known k)) ≡ 0
+    pub body-whole : next_at file at ≤ length file → suited ≡ true → first_of (body_rows file at (Some k)) ≡ 0
     unfolding body_rows first_of
     body-whole h f = simp (le-ltb (length file) (next_at file at) h, f)
 
@@ -47,11 +49,11 @@ module _ (file : List ℕ) (at : ℕ) where
   no-head h = simp (lt-ltb (length file) (at + 3) h)
 
   module _ (h : at + 3 ≤ length file) where
-    pub no-tag : kind_of (tag_at file at) ≡ Unknown → first_of (record_rows file at) ≡ 20
+    pub no-tag : kind_of (tag_at file at) ≡ None → first_of (record_rows file at) ≡ 20
     unfolding record_rows first_of
     no-tag e = simp (le-ltb (length file) (at + 3) h, unknown-tag (tag_at file at) e)
 
-    pub tag-known : {k : Kind} → kind_of (tag_at file at) ≡ Known k → first_of (record_rows file at) ≡ first_of (body_rows file at (Known k))
+    pub tag-known : {k : Kind} → kind_of (tag_at file at) ≡ Some k → first_of (record_rows file at) ≡ first_of (body_rows file at (Some k))
     unfolding record_rows first_of
     tag-known e = simp (le-ltb (length file) (at + 3) h, e)
 
@@ -68,17 +70,13 @@ module _ (file : List ℕ) (at : ℕ) where
       let b = pass _ 20 _ refl a.1 in
       record { head = ltb-false (length file) (at + 3) a.0; tag = not-false (is_tag (tag_at file at)) b.0; body = b.1 }
 
-  pub whole : first_of (record_rows file at) ≡ 0 → {k : Kind} → kind_of (tag_at file at) ≡ Known k → Whole file at k
+  pub whole : first_of (record_rows file at) ≡ 0 → {k : Kind} → kind_of (tag_at file at) ≡ Some k → Whole file at k
   unfolding body_rows
   whole z {k} e =
-      let rows : first_of (body_rows file at (Known k)) ≡ 0 = rw e at (unbroken z).body in
+      let rows : first_of (body_rows file at (Some k)) ≡ 0 = rw e at (unbroken z).body in
       let a = pass _ 21 _ refl rows in
       let b = pass _ 22 _ refl a.1 in
       record { inside = ltb-false (length file) (next_at file at) a.0; tag = e; suited = not-false (suited k) b.0 }
-
-  -- something is known to stand where nothing is wrong
-  pub known : first_of (record_rows file at) ≡ 0 → kind_of (tag_at file at) ≡ Unknown → ⊥
-  known z e = let t : true ≡ false = sym (unbroken z).tag ∙ unknown-tag (tag_at file at) e in let o : ◌≡◌ {A = ℕ} 0 1 = cc in omega arith
 
 -- ---- what stands
 module _ (file : List ℕ) (at : ℕ) where
@@ -87,39 +85,6 @@ module _ (file : List ℕ) (at : ℕ) where
 
   pub stands : wrong ≡ 0 → standing file at ≡ kind_of (tag_at file at)
   stands z = rw (eq-eqb wrong 0 z)
-
-  stands-whole : {k : Kind} → standing file at ≡ Known k → Whole file at k
-  stands-whole {k} = if-cases (λ (t : Tagged). t ≡ Known k → Whole file at k) (eqb wrong 0) (λ z. whole file at (eqb-true wrong 0 z)) (λ z. λ (e : Unknown ≡ Known k). absurd (let o : ◌≡◌ {A = ℕ} 0 1 = cc in omega arith))
-
-  -- an opening
-  pub record Opening : Type 0 where
-    pub kind : Kind
-    pub whole : Whole file at kind
-    pub opens : is_opening (row_of kind).role ≡ true
-
-  pub opening : opens (standing file at) ≡ true → Opening
-  opening = go (standing file at) refl
-    where
-      go : (t : Tagged) → standing file at ≡ t → opens t ≡ true → Opening
-      go (Known k) e h = record { kind = k; whole = stands-whole e; opens = h }
-      go Unknown e h = absurd (let o : ◌≡◌ {A = ℕ} 0 1 = cc in omega arith)
-
-  -- a record with lists
-  pub record Listed : Type 0 where
-    pub kind : Kind
-    pub whole : Whole file at kind
-    pub lists : (row_of kind).body ≡ lists
-
-  lists-body : (b : Body) → is_lists b ≡ true → b ≡ lists
-  lists-body (bytes n) e = cc
-  lists-body lists e = refl
-
-  pub listed : has_lists (standing file at) ≡ true → Listed
-  listed = go (standing file at) refl
-    where
-      go : (t : Tagged) → standing file at ≡ t → has_lists t ≡ true → Listed
-      go (Known k) e h = record { kind = k; whole = stands-whole e; lists = lists-body (row_of k).body h }
-      go Unknown e h = absurd (let o : ◌≡◌ {A = ℕ} 0 1 = cc in omega arith)
 
 -- ---- with the row of 23 behind
 -- rows behind others that have numbers: the first that applies of those, or else of these

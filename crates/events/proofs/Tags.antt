@@ -5,11 +5,12 @@ use mathlib.Core.Bool.{false}
 use Rattle.rules.specs.declared.Kind.{Kind}
 use Rattle.rules.specs.declared.Kind.TheVariants.{Open, Grant, Begin, Finish, Recheck, Scan, Pick, Deliver, Evict, Cancel}
 use Rattle.rules.specs.CallTable.{row_of, kinds}
-use Rattle.events.specs.declared.Tagged.TheVariants.{Known, Unknown}
-use Rattle.events.specs.Events.{is_known, is_tag, kind_in, kind_of}
+use Rattle.rules.specs.Tags.{kind_in, kind_of}
+use Rattle.std.specs.Prelude.{Some, None}
+use Rattle.events.specs.Events.{is_known, is_tag}
 
 -- every kind is in the table, under its own tag
-pub tag-known : (k : Kind) → kind_of (row_of k).tag ≡ Known k
+pub tag-known : (k : Kind) → kind_of (row_of k).tag ≡ Some k
 unfolding kinds kind_in
 tag-known Open = refl
 tag-known Grant = refl
@@ -23,5 +24,5 @@ tag-known Evict = refl
 tag-known Cancel = refl
 
 -- a number that no call has is no tag
-pub unknown-tag : (tag : ℕ) → kind_of tag ≡ Unknown → is_tag tag ≡ false
+pub unknown-tag : (tag : ℕ) → kind_of tag ≡ None → is_tag tag ≡ false
 unknown-tag tag e = ap is_known e

@@ -1,14 +1,12 @@
 -- The event file, as a list of bytes: what stands at a position, when it is refused, and which call it is.
-use Rattle.std.specs.Prelude.{ℕ, ◌+◌, ◌-◌, ◌*◌, ◌≤◌, ◌≡◌, Bool, true, false, ◌&&◌, not, List, [], ◌∷◌, ◌++◌, eqb, ltb, leb, length, get_or, take, drop, if◌then◌else◌}
+use Rattle.std.specs.Prelude.{ℕ, ◌+◌, ◌-◌, ◌*◌, ◌≤◌, ◌≡◌, Bool, true, false, ◌&&◌, not, List, [], ◌∷◌, ◌++◌, eqb, ltb, leb, length, get_or, take, drop, if◌then◌else◌, Option, Some, None}
 use Rattle.rules.specs.declared.Kind.{Kind}
 use Rattle.rules.specs.declared.Event.{Event}
-use Rattle.rules.specs.CallTable.{Body, bytes, lists, row_of, kinds, is_opening}
+use Rattle.rules.specs.CallTable.{Body, bytes, lists, row_of, is_opening}
 use Rattle.rules.specs.Refusals.{Row, ◌gives◌, first_of}
 use Rattle.rules.specs.Runs.{Call, event_of}
-use Rattle.events.specs.declared.Tagged.{Tagged}
-use Rattle.events.specs.declared.Tagged.TheVariants.{Known, Unknown}
+use Rattle.rules.specs.Tags.{kind_of}
 use Rattle.events.specs.declared.Next.{Next}
-use Rattle.events.specs.declared.Shape.{Shape}
 
 -- ---- numbers, "high first"
 abbrev pub byte_at : List ℕ → ℕ → ℕ
@@ -39,25 +37,17 @@ abbrev pub count_in : List ℕ → ℕ
 count_in body = byte_at body 2
 
 -- ---- tags
--- which call of the table a tag is
-unfoldable pub kind_in : List Kind → ℕ → Tagged
-kind_in [] tag = Unknown
-kind_in (k ∷ ks) tag = if eqb (row_of k).tag tag then Known k else kind_in ks tag
-
-abbrev pub kind_of : ℕ → Tagged
-kind_of tag = kind_in kinds tag
-
 -- 20 is for a tag that no call has
-abbrev pub is_known : Tagged → Bool
-is_known (Known k) = true
-is_known Unknown = false
+abbrev pub is_known : Option Kind → Bool
+is_known (Some k) = true
+is_known None = false
 
 abbrev pub is_tag : ℕ → Bool
 is_tag tag = is_known (kind_of tag)
 
-abbrev pub opens : Tagged → Bool
-opens (Known k) = is_opening (row_of k).role
-opens Unknown = false
+abbrev pub opens : Option Kind → Bool
+opens (Some k) = is_opening (row_of k).role
+opens None = false
 
 -- ---- refusals
 -- 22: "a length that does not suit its tag (for Begin, below 3 or r above length − 3)", by the length and r
@@ -65,13 +55,13 @@ abbrev pub fits : Body → ℕ → ℕ → Bool
 fits (bytes k) n r = eqb n k
 fits lists n r = leb 3 n && leb r (n - 3)
 
-abbrev pub suits : Tagged → ℕ → ℕ → Bool
-suits (Known k) n r = fits (row_of k).body n r
-suits Unknown n r = false
+abbrev pub suits : Option Kind → ℕ → ℕ → Bool
+suits (Some k) n r = fits (row_of k).body n r
+suits None n r = false
 
 -- 21: "one or two bytes left, or a body past the end"; 20: "unknown tag". A record by itself: "21 for the head, 20, 21 for the
 -- body, 22"
-unfoldable pub body_rows : List ℕ → ℕ → Tagged → List Row
+unfoldable pub body_rows : List ℕ → ℕ → Option Kind → List Row
 body_rows file at kind =
     ltb (length file) (next_at file at) gives 21 ∷
     not (suits kind (length_at file at) (count_in (body_at file at))) gives 22 ∷
@@ -84,7 +74,7 @@ record_rows file at =
     body_rows file at (kind_of (tag_at file at))
 
 -- 23: "the first record is not Open, or a later one is"
-abbrev pub misplaced : Tagged → Bool → Bool
+abbrev pub misplaced : Option Kind → Bool → Bool
 misplaced kind first = if first then not (opens kind) else opens kind
 
 unfoldable pub file_rows : List ℕ → ℕ → Bool → List Row
@@ -116,9 +106,9 @@ abbrev pub call_at : List ℕ → ℕ → Event → Call
 call_at file at e = call_of e.kind (body_at file at)
 
 -- what stands at a position: the end, a refusal, or an event and where the next record begins
-abbrev pub read_as : Tagged → List ℕ → ℕ → Next
-read_as (Known k) file at = Next.Call (event_of (call_of k (body_at file at))) (next_at file at)
-read_as Unknown file at = Next.Refused 20
+abbrev pub read_as : Option Kind → List ℕ → ℕ → Next
+read_as (Some k) file at = Next.Call (event_of (call_of k (body_at file at))) (next_at file at)
+read_as None file at = Next.Refused 20
 
 unfoldable pub record_at : List ℕ → ℕ → Bool → Next
 record_at file at first =
@@ -140,16 +130,16 @@ abbrev pub within : List ℕ → Part → List ℕ
 within file p = take p.count (drop p.from file)
 
 -- the whole record that stands at a position, none where something is wrong with it
-abbrev pub standing : List ℕ → ℕ → Tagged
-standing file at = if eqb (first_of (record_rows file at)) 0 then kind_of (tag_at file at) else Unknown
+abbrev pub standing : List ℕ → ℕ → Option Kind
+standing file at = if eqb (first_of (record_rows file at)) 0 then kind_of (tag_at file at) else None
 
 abbrev pub is_lists : Body → Bool
 is_lists (bytes n) = false
 is_lists lists = true
 
-abbrev pub has_lists : Tagged → Bool
-has_lists (Known k) = is_lists (row_of k).body
-has_lists Unknown = false
+abbrev pub has_lists : Option Kind → Bool
+has_lists (Some k) = is_lists (row_of k).body
+has_lists None = false
 
 -- the shares of an Open, the reads and the writes of a Begin; an empty part, at the file's end, where no such record stands
 unfoldable pub shares_part : List ℕ → ℕ → Part
@@ -166,19 +156,10 @@ writes_part file at =
 -- ---- what is known of a record that stands whole
 pub record Whole (file : List ℕ) (at : ℕ) (kind : Kind) : Type 0 where
   pub inside : next_at file at ≤ length file
-  pub tag : kind_of (tag_at file at) ≡ Known kind
+  pub tag : kind_of (tag_at file at) ≡ Some kind
   pub suited : fits (row_of kind).body (length_at file at) (count_in (body_at file at)) ≡ true
 
--- a row of the table of calls as the code has it: whether it opens, whether its body has lists, and how many bytes it has if not
-abbrev pub bytes_in : Body → ℕ
-bytes_in (bytes n) = n
-bytes_in lists = 0
-
-pub record IsRow (kind : Kind) (r : Shape) : Type 0 where
-  pub opens : r.opens ≡ is_opening (row_of kind).role
-  pub lists : r.lists ≡ is_lists (row_of kind).body
-  pub bytes : r.bytes ≡ bytes_in (row_of kind).body
-
-pub record Stands (kind : Tagged) (r : Shape) : Type 0 where
-  pub opens : r.opens ≡ opens kind
-  pub lists : r.lists ≡ has_lists kind
+-- how long a body is, as the code has it; None where it has lists
+abbrev pub length_of : Body → Option ℕ
+length_of (bytes n) = Some n
+length_of lists = None

@@ -95,3 +95,13 @@ decimal-short =
     go : (n : ℕ) (ds : List ℕ) → 10 ≤ n → ((k : ℕ) → n / 10 < 10 ^ suc k → length ds ≤ suc k) → (k : ℕ) → n < 10 ^ suc k → length (ds ++ (48 + n % 10) ∷ []) ≤ suc k
     go n ds many short zero h = omega arith
     go n ds many short (suc k) h = simp length-append (omega (arith, pow-suc 10 (suc k), short k (omega (arith, pow-suc 10 (suc k)))))
+
+-- so many at most has a byte, a serial and any u32
+pub byte_short : (n : ℕ) → n < 256 → length (decimal n) ≤ 3
+byte_short n h = decimal-short n 2 (omega arith)
+
+pub serial_short : (n : ℕ) → n < 65_536 → length (decimal n) ≤ 5
+serial_short n h = decimal-short n 4 (omega arith)
+
+pub number_short : (n : ℕ) → n < 4_294_967_296 → length (decimal n) ≤ 10
+number_short n h = decimal-short n 9 (omega arith)

@@ -3,10 +3,10 @@ use Prim.Native.Nat.{ℕ, suc, ◌+◌, ◌-◌, ◌/◌, ◌%◌, ◌≤◌, �
 use mathlib.Core.Path.{◌≡◌, sym, ap, ◌∙◌}
 use mathlib.Core.List.{List, ◌∷◌, ◌++◌}
 use native.Mathlib.Omega.{arith}
-use lib.ListN.{length, drop, set, length-set, length-append}
+use lib.ListN.{length, take, drop, set, length-set, length-append}
 use lib.Seq.{append_snoc, drop-cons, drop-set-lt, get_or-set_same}
+use Rattle.std.proofs.lemmas.List.{take_rest}
 use Rattle.listing.specs.Decimal.{decimal}
-use Rattle.listing.specs.Written.{Ends}
 use Rattle.listing.proofs.Decimal.{decimal-one, decimal-more, decimal-leads}
 
 -- the digits that stand from `at` on are those that n has behind high's, and before them is room for high's
@@ -37,10 +37,9 @@ module _ {n high at : ℕ} {bytes : List ℕ} (e : Ending n high at bytes) where
     is = e.is ∙ ap (λ (t : List ℕ). t ++ drop at bytes) (decimal-more high many) ∙ append_snoc (decimal (high / 10)) (48 + high % 10) (drop at bytes) ∙ ap (λ (t : List ℕ). decimal (high / 10) ++ t) (sym (put (48 + high % 10)));
   }
 
-  -- the first digit
-  pub ending-last : high < 10 → Ends (at - 1) (set bytes (at - 1) (48 + high)) (decimal n)
-  ending-last one = record {
-    whole = simp length-set e.whole;
-    within = omega arith;
-    is = put (48 + high) ∙ sym (e.is ∙ ap (λ (t : List ℕ). t ++ drop at bytes) (decimal-one high one));
-  }
+  -- the first digit: the digits of n stand from there to the end
+  pub ending-last : high < 10 → take (10 - (at - 1)) (drop (at - 1) (set bytes (at - 1) (48 + high))) ≡ decimal n
+  ending-last one =
+      let full = set bytes (at - 1) (48 + high) in
+      let whole : 10 ≡ length full = simp length-set (sym e.whole) in
+      ap (λ (m : ℕ). take (m - (at - 1)) (drop (at - 1) full)) whole ∙ take_rest full (at - 1) ∙ put (48 + high) ∙ sym (e.is ∙ ap (λ (t : List ℕ). t ++ drop at bytes) (decimal-one high one))

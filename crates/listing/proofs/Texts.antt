@@ -14,7 +14,7 @@ use Rattle.rules.specs.Said.{said, word_of}
 use Rattle.listing.specs.declared.Name.{Name}
 use Rattle.listing.specs.Decimal.{decimal}
 use Rattle.listing.specs.Listing.{colon, point, at_sign, name_of, answer_text}
-use Rattle.listing.proofs.Decimal.{decimal-short}
+use Rattle.listing.proofs.Decimal.{byte_short, serial_short}
 
 kind-short : (kind : Kind) → length (row_of kind).name ≤ 7
 kind-short Open = omega arith
@@ -28,15 +28,15 @@ kind-short Deliver = omega arith
 kind-short Evict = omega arith
 kind-short Cancel = omega arith
 
-pub name-short : (name : Name) → length (name_of name) ≤ 7
-name-short (Name.Call kind) = kind-short kind
-name-short Name.File = omega arith
+pub name_short : (name : Name) → length (name_of name) ≤ 7
+name_short (Name.Call kind) = kind-short kind
+name_short Name.File = omega arith
 
-pub word-short : (mode : Mode) → length (word_of mode) ≤ 7
+pub word_short : (mode : Mode) → length (word_of mode) ≤ 7
 unfolding word_of
-word-short Free = omega arith
-word-short Waiting = omega arith
-word-short Blocked = omega arith
+word_short Free = omega arith
+word_short Waiting = omega arith
+word_short Blocked = omega arith
 
 -- ---- a refusal: the word, a colon and the number
 module _ (number : ℕ) where
@@ -45,7 +45,7 @@ module _ (number : ℕ) where
   refused-text = simp append-nil
 
   pub refused-short : number < 256 → length (answer_text (Refused number)) ≤ 17
-  refused-short n = rw refused-text (omega (arith, decimal-short number 2 (omega arith)))
+  refused-short n = rw refused-text (omega (arith, byte_short number))
 
 -- ---- an entry's name: its state, a colon, the tenant, a point and the serial
 module _ (mode : Mode) (tenant serial : ℕ) where
@@ -54,7 +54,7 @@ module _ (mode : Mode) (tenant serial : ℕ) where
   named-text = simp (append-nil, append_assoc)
 
   pub named-short : tenant < 256 → serial < 65536 → length (answer_text (Named mode tenant serial)) ≤ 17
-  named-short t s = rw named-text (simp length-append (omega (arith, word-short mode, decimal-short tenant 2 (omega arith), decimal-short serial 4 (omega arith))))
+  named-short t s = rw named-text (simp length-append (omega (arith, word_short mode, byte_short tenant, serial_short serial)))
 
 -- ---- a Blocked entry's name, and the record that it clashed on behind an @
 module _ (tenant serial on : ℕ) where
@@ -66,4 +66,4 @@ module _ (tenant serial on : ℕ) where
       (sym (append_assoc (word_of Blocked ++ colon ∷ decimal tenant) (point ∷ decimal serial) mark ∙ append_assoc (word_of Blocked) (colon ∷ decimal tenant) (point ∷ (decimal serial ++ mark))))
 
   pub clash-short : tenant < 256 → serial < 65536 → on < 256 → length (answer_text (BlockedOn tenant serial on)) ≤ 21
-  clash-short t s o = rw clash-text (simp length-append (omega (arith, named-short Blocked tenant serial t s, decimal-short on 2 (omega arith))))
+  clash-short t s o = rw clash-text (simp length-append (omega (arith, named-short Blocked tenant serial t s, byte_short on)))

@@ -1,12 +1,10 @@
 -- The listing, its header and one line a record, as bytes.
-use Rattle.std.specs.Prelude.{ℕ, List, [], ◌∷◌, ◌++◌}
+use Rattle.std.specs.Prelude.{ℕ, List, [], ◌∷◌, ◌++◌, Option, Some, None}
 use Rattle.rules.specs.declared.Answer.{Answer}
 use Rattle.rules.specs.CallTable.{row_of}
 use Rattle.rules.specs.Said.{said}
 use Rattle.listing.specs.declared.Name.{Name}
 use Rattle.listing.specs.declared.Name.TheVariants.{Call, File}
-use Rattle.listing.specs.declared.Left.{Left}
-use Rattle.listing.specs.declared.Left.TheVariants.{Fuel, Nobody}
 use Rattle.listing.specs.Decimal.{decimal}
 
 -- the bytes of the marks
@@ -54,13 +52,13 @@ unfoldable pub answer_text : Answer → List ℕ
 answer_text answer = (said answer).word ++ behind (said answer).values (clash_text (said answer).clash)
 
 -- "the named tenant's fuel afterwards, or - with no valid tenant named"
-unfoldable pub left_text : Left → List ℕ
-left_text (Fuel units) = decimal units
-left_text Nobody = dash ∷ []
+unfoldable pub left_text : Option ℕ → List ℕ
+left_text (Some units) = decimal units
+left_text None = dash ∷ []
 
 -- "fields parted by one space and each line ended by a line feed: record number; call; answer; units burnt; the named
 -- tenant's fuel afterwards"
-unfoldable pub line_of : ℕ → Name → Answer → ℕ → Left → List ℕ
+unfoldable pub line_of : ℕ → Name → Answer → ℕ → Option ℕ → List ℕ
 line_of number name answer burnt left =
     decimal number ++
     space ∷ name_of name ++

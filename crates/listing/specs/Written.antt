@@ -18,9 +18,3 @@ pub record Appended (l : Line) (text : List ℕ) (r : Line) : Type 0 where
   pub len : r.len ≡ l.len + length text
   pub is : text_of r ≡ text_of l ++ text
   pub rest : drop r.len r.bytes ≡ drop r.len l.bytes
-
--- the array of 10 ends in the text, which starts at a place
-pub record Ends (at : ℕ) (bytes text : List ℕ) : Type 0 where
-  pub whole : length bytes ≡ 10
-  pub within : at ≤ 10
-  pub is : drop at bytes ≡ text

@@ -19,7 +19,7 @@ fn main(rt: HostRuntime) -> io::Result<ExitCode> {
     if to.unread {
         return Ok(ExitCode::from(141));
     }
-    if !printed.all {
+    if printed.is_err() {
         eprintln!(rt; "lockrun: the listing could not be written")?;
     }
     Ok(ExitCode::SUCCESS)

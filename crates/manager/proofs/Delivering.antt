@@ -33,11 +33,11 @@ module _ {s : State} (h : Sound s) (k : Slotted s) (who serial : ℕ) {at : ℕ}
   pub is-due : 0 < (get_or s.entries at blank).due
   is-due = rw (ap (λ (e : Request). e.due) (entry-is k.slots who serial place (used k there))) (above_zero _ (eqb-false _ 0 passes.1))
 
-  pub delivers : {p : Entry} → Stands (delivered (request (get_or s.entries at blank))) p → (said : Said) → said.answer ≡ named (request p) → said.burnt ≡ 0 → Did (record { cx = s.cx; cs = s.cs; written = s.written; read = s.read; meters = s.meters; count = s.count; entries = set s.entries at p; said = said }) (deliver_of (view s) who serial)
+  pub delivers : {p : Entry} → Stands (delivered (request (get_or s.entries at blank))) p → (said : Said) → said.answer ≡ named (request p) → said.burnt ≡ 0 → Did (record { cx = s.cx; cs = s.cs; maps = s.maps; meters = s.meters; count = s.count; entries = set s.entries at p; said = said }) (deliver_of (view s) who serial)
   unfolding deliver_of
   delivers {p} stands said says burnt =
       let t = view s in
-      let next : State = record { cx = s.cx; cs = s.cs; written = s.written; read = s.read; meters = s.meters; count = s.count; entries = set s.entries at p; said = said } in
+      let next : State = record { cx = s.cx; cs = s.cs; maps = s.maps; meters = s.meters; count = s.count; entries = set s.entries at p; said = said } in
       let made = makes-becomes h.tied k delivered delivered-lists (used k there) stands said in
       host-done t _ none
       (delivery-sound h.table (stands_at who serial t.queue) (here who serial t.queue passes.0) passes.1)

@@ -1,9 +1,9 @@
 -- Entries that join, change and leave: the counters and the slots go with the list of requests.
-use Prim.Native.Nat.{ℕ, ◌<◌, min}
+use Prim.Native.Nat.{ℕ, ◌<◌}
 use mathlib.Core.Path.{◌≡◌, refl, sym, ap, subst, ◌∙◌}
 use mathlib.Core.List.{List, [], ◌∷◌, ◌++◌, map}
 use native.Mathlib.Omega.{arith}
-use lib.ListN.{length, get_or, take, set}
+use lib.ListN.{length, get_or, set}
 use Rattle.rules.specs.Records.{member, Stored}
 use Rattle.rules.specs.Request.{Request, nobody, promoted, delivered}
 use Rattle.rules.specs.Table.{with_queue}
@@ -14,7 +14,6 @@ use Rattle.meter.specs.declared.Meter.{Meter}
 use Rattle.meter.specs.View.{meter_view}
 use Rattle.entry.specs.declared.Entry.{Entry}
 use Rattle.entry.specs.Entry.{blank, request, Stands}
-use Rattle.entry.proofs.Typed.{Lists, few-take}
 use Rattle.counters.specs.Counters.{Raised, Stocked, Counts, Marks}
 use Rattle.counters.proofs.Laws.{counts-raised, counts-stocked, counts-lowered}
 use Rattle.queue.specs.Queue.{Queue, Holds}
@@ -36,14 +35,6 @@ promoted-lists e = record { reads = refl; writes = refl }
 pub delivered-lists : (e : Request) → SameLists e (delivered e)
 delivered-lists e = record { reads = ap (λ (a : Request). a.reads) (delivered-as e); writes = ap (λ (a : Request). a.writes) (delivered-as e) }
 
--- the records that the code counts are those of the request
-module _ {r : Request} {e : Entry} (h : Stands r e) (l : Lists e) where
-  pub reads-are : (few : ℕ) → few ≡ min e.nr 8 → take few e.reads ≡ r.reads
-  reads-are few k = few-take e.nr few l.reads k ∙ ap (λ (a : Request). a.reads) h.is
-
-  pub writes_are : (few : ℕ) → few ≡ min e.nw 8 → take few e.writes ≡ r.writes
-  writes_are few k = few-take e.nw few l.writes k ∙ ap (λ (a : Request). a.writes) h.is
-
 -- the counters of a list of requests, and the maps of those above 0
 pub record Counted (l : List Request) (x y v w : List ℕ) : Type 0 where
   pub writers : Counts (λ e. e.writes) x l
@@ -52,7 +43,7 @@ pub record Counted (l : List Request) (x y v w : List ℕ) : Type 0 where
   pub read : Marks w y
 
 -- a state whose queue holds another list
-pub queue-becomes : {x y v w : List ℕ} {q : Queue} {l : List Request} {said : Said} (ms : List Meter) → Holds l q → Counted l x y v w → Becomes (record { meters = map meter_view ms; queue = l }) (record { cx = x; cs = y; written = v; read = w; meters = ms; count = q.count; entries = q.entries; said = said })
+pub queue-becomes : {x y v w : List ℕ} {q : Queue} {l : List Request} {said : Said} (ms : List Meter) → Holds l q → Counted l x y v w → Becomes (record { meters = map meter_view ms; queue = l }) (record { cx = x; cs = y; maps = record { written = v; read = w }; meters = ms; count = q.count; entries = q.entries; said = said })
 queue-becomes {x} {y} {v} {w} {q} {l} {said} ms h c = record {
   is = ap (λ (t : List Request). record { meters = map meter_view ms; queue = t }) h.list;
   tied = record { writers = subst (Counts (λ e. e.writes) x) (sym h.list) c.writers; readers = subst (Counts (λ e. e.reads) y) (sym h.list) c.readers; written = c.written; read = c.read; neat = h.neat };
@@ -60,7 +51,7 @@ queue-becomes {x} {y} {v} {w} {q} {l} {said} ms h c = record {
 
 module _ {s : State} (t : Tied s) where
   -- an entry joins the back
-  pub joins-becomes : {x y v w : List ℕ} {q : Queue} {said : Said} (ms : List Meter) (e : Request) → Stored e.reads e.writes → Raised s.cx e.writes x → Raised s.cs e.reads y → Marks v x → Marks w y → Holds ((view s).queue ++ e ∷ []) q → Becomes (record { meters = map meter_view ms; queue = (view s).queue ++ e ∷ [] }) (record { cx = x; cs = y; written = v; read = w; meters = ms; count = q.count; entries = q.entries; said = said })
+  pub joins-becomes : {x y v w : List ℕ} {q : Queue} {said : Said} (ms : List Meter) (e : Request) → Stored e.reads e.writes → Raised s.cx e.writes x → Raised s.cs e.reads y → Marks v x → Marks w y → Holds ((view s).queue ++ e ∷ []) q → Becomes (record { meters = map meter_view ms; queue = (view s).queue ++ e ∷ [] }) (record { cx = x; cs = y; maps = record { written = v; read = w }; meters = ms; count = q.count; entries = q.entries; said = said })
   joins-becomes ms e f x y written read h =
       queue-becomes ms h (record {
         writers = counts-raised (λ a. a.writes) e f.writes-rise t.writers x;
@@ -78,7 +69,7 @@ module _ {s : State} (t : Tied s) where
       pub reads-stocked : Stocked s.cs (get_or (view s).queue i nobody).reads
       reads-stocked = counts-stocked (λ a. a.reads) i there f.reads-rise t.readers
 
-      pub leaves-becomes : {x y v w : List ℕ} {q : Queue} {said : Said} → Raised x (get_or (view s).queue i nobody).writes s.cx → Raised y (get_or (view s).queue i nobody).reads s.cs → Marks v x → Marks w y → Holds (without_entry i (view s).queue) q → Becomes (with_queue (view s) (without_entry i (view s).queue)) (record { cx = x; cs = y; written = v; read = w; meters = s.meters; count = q.count; entries = q.entries; said = said })
+      pub leaves-becomes : {x y v w : List ℕ} {q : Queue} {said : Said} → Raised x (get_or (view s).queue i nobody).writes s.cx → Raised y (get_or (view s).queue i nobody).reads s.cs → Marks v x → Marks w y → Holds (without_entry i (view s).queue) q → Becomes (with_queue (view s) (without_entry i (view s).queue)) (record { cx = x; cs = y; maps = record { written = v; read = w }; meters = s.meters; count = q.count; entries = q.entries; said = said })
       leaves-becomes x y written read h =
           queue-becomes s.meters h (record {
             writers = counts-lowered (λ a. a.writes) i there f.writes-rise t.writers x;
@@ -93,7 +84,7 @@ module _ {s : State} (t : Tied s) where
       each = λ k b. n.each k b ∙ sym (count_set (λ (a : Request). member k (of a)) (view s).queue i e nobody (ap (member k) same));
     }
 
-    pub changed-becomes : {q : Queue} {said : Said} (e : Request) → SameLists (get_or (view s).queue i nobody) e → Holds (set (view s).queue i e) q → Becomes (with_entry (view s) i e) (record { cx = s.cx; cs = s.cs; written = s.written; read = s.read; meters = s.meters; count = q.count; entries = q.entries; said = said })
+    pub changed-becomes : {q : Queue} {said : Said} (e : Request) → SameLists (get_or (view s).queue i nobody) e → Holds (set (view s).queue i e) q → Becomes (with_entry (view s) i e) (record { cx = s.cx; cs = s.cs; maps = s.maps; meters = s.meters; count = q.count; entries = q.entries; said = said })
     changed-becomes e same h =
         queue-becomes s.meters h (record {
           writers = still-counts (λ a. a.writes) e same.writes t.writers;
@@ -107,7 +98,7 @@ module _ {s : State} (t : Tied s) (k : Slotted s) (make : Request → Request) (
   now-is : request p ≡ make (get_or (view s).queue i nobody)
   now-is = h.is ∙ ap make (sym (request-at k.slots inside))
 
-  pub makes-becomes : (said : Said) → Becomes (with_entry (view s) i (make (get_or (view s).queue i nobody))) (record { cx = s.cx; cs = s.cs; written = s.written; read = s.read; meters = s.meters; count = s.count; entries = set s.entries i p; said = said })
+  pub makes-becomes : (said : Said) → Becomes (with_entry (view s) i (make (get_or (view s).queue i nobody))) (record { cx = s.cx; cs = s.cs; maps = s.maps; meters = s.meters; count = s.count; entries = set s.entries i p; said = said })
   makes-becomes said =
       let was = get_or (view s).queue i nobody in
       let there : i < length (view s).queue = omega (arith, requests-length k.slots) in

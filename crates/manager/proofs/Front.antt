@@ -52,7 +52,7 @@ module _ {s : State} (h : Sound s) (k : Slotted s) where
     front-mode : is_blocked (get_or (view s).queue 0 nobody).mode ≡ is_blocked (get_or s.entries 0 blank).mode
     front-mode = ap (λ (e : Request). is_blocked e.mode) (request-at k.slots some)
 
-    pub front-promoted : is_blocked (get_or s.entries 0 blank).mode ≡ true → {p : Entry} → Stands (promoted (request (get_or s.entries 0 blank))) p → (said : Said) → said.answer ≡ named (request p) → said.burnt ≡ 0 → Did (record { cx = s.cx; cs = s.cs; written = s.written; read = s.read; meters = s.meters; count = s.count; entries = set s.entries 0 p; said = said }) (pick_of (view s))
+    pub front-promoted : is_blocked (get_or s.entries 0 blank).mode ≡ true → {p : Entry} → Stands (promoted (request (get_or s.entries 0 blank))) p → (said : Said) → said.answer ≡ named (request p) → said.burnt ≡ 0 → Did (record { cx = s.cx; cs = s.cs; maps = s.maps; meters = s.meters; count = s.count; entries = set s.entries 0 p; said = said }) (pick_of (view s))
     unfolding pick_of
     front-promoted b stands said says burnt =
         let end = end-promoted (view s).queue there (front-mode ∙ b) in

@@ -23,7 +23,8 @@ use Rattle.rules.proofs.Sound.{begin-sound}
 use Rattle.rules.proofs.Reduced.{reduced-stored}
 use Rattle.rules.proofs.Meters.{Sixteen, meter-own}
 use Rattle.rules.proofs.Mapped.{map-set}
-use Rattle.maps.specs.declared.Low.{Low}
+use Rattle.std.specs.Prelude.{Option}
+use Rattle.rules.specs.declared.Answer.{Answer}
 use Rattle.maps.specs.Maps.{in_map, IsLowest}
 use Rattle.entry.specs.declared.Entry.{Entry}
 use Rattle.entry.specs.Entry.{request, Stands}
@@ -34,7 +35,6 @@ use Rattle.counters.proofs.Marks.{marks-tell}
 use Rattle.queue.proofs.Views.{requests-length, pushed-holds}
 use Rattle.meter.specs.declared.Meter.{Meter}
 use Rattle.meter.specs.View.{meter_view}
-use Rattle.manager.specs.declared.begin.Joining.{Joining}
 use Rattle.manager.specs.declared.State.{State}
 use Rattle.manager.specs.State.{view, Sound, Did}
 use Rattle.manager.specs.Deeds.{AdmittedBy}
@@ -91,18 +91,18 @@ module _ {s : State} (h : Sound s) (k : Slotted s) (who awaited : ℕ) (reads wr
       let few : length (view s).queue < 65 = omega (arith, sound-count h.table) in
       counts-under of 65 few n
 
-  module _ {e : Entry} {x y v w : List ℕ} (low : Low) (j : Joining) (is : request e ≡ wanted) (l : Lists e) (up : Raised s.cx (request e).writes x) (up' : Raised s.cs (request e).reads y) (written : Marks v x) (read : Marks w y) (found : IsLowest (clash_at (in_map s.written) (in_map s.read) (request e)) low) (by : AdmittedBy low (request e) j) where
+  module _ {e : Entry} {x y v w : List ℕ} (low : Option ℕ) (j : Entry × Answer) (is : request e ≡ wanted) (l : Lists e) (up : Raised s.cx (request e).writes x) (up' : Raised s.cs (request e).reads y) (written : Marks v x) (read : Marks w y) (found : IsLowest (clash_at (in_map s.maps.written) (in_map s.maps.read) (request e)) low) (by : AdmittedBy low (request e) j) where
     small : Names (λ n. n ≤ 255) wanted
     small = subst (Names (λ n. n ≤ 255)) is (records-small e l)
 
     -- the entry that joins is the one that the law book admits, and the answer is its
-    own : Stands (admitted (view s).queue wanted) j.entry × (j.answer ≡ begun (view s).queue wanted)
+    own : Stands (admitted (view s).queue wanted) j.0 × (j.1 ≡ begun (view s).queue wanted)
     own =
         let q = (view s).queue in
-        let told = joining-told q (in_map s.written) (in_map s.read) (marks-tell (λ a. a.writes) h.tied.written h.tied.writers) (marks-tell (λ a. a.reads) h.tied.read h.tied.readers) e l low j (ap (λ (a : Request). a.mode) is) found by in
-        subst (λ (a : Request). Stands (admitted q a) j.entry × (j.answer ≡ begun q a)) is told
+        let told = joining-told q (in_map s.maps.written) (in_map s.maps.read) (marks-tell (λ a. a.writes) h.tied.written h.tied.writers) (marks-tell (λ a. a.reads) h.tied.read h.tied.readers) e l low j (ap (λ (a : Request). a.mode) is) found by in
+        subst (λ (a : Request). Stands (admitted q a) j.0 × (j.1 ≡ begun q a)) is told
 
-    pub begin-did : {paid : Meter} {cost : ℕ} → cost ≡ admission clause9 wanted → meter_view paid ≡ spent (numbered (meter_of (view s) who)) cost → Did (record { cx = x; cs = y; written = v; read = w; meters = set s.meters (who - 1) paid; count = s.count + 1; entries = set s.entries s.count j.entry; said = record { answer = j.answer; burnt = cost } }) (begin_of clause9 (view s) who awaited reads writes)
+    pub begin-did : {paid : Meter} {cost : ℕ} → cost ≡ admission clause9 wanted → meter_view paid ≡ spent (numbered (meter_of (view s) who)) cost → Did (record { cx = x; cs = y; maps = record { written = v; read = w }; meters = set s.meters (who - 1) paid; count = s.count + 1; entries = set s.entries s.count j.0; said = record { answer = j.1; burnt = cost } }) (begin_of clause9 (view s) who awaited reads writes)
     unfolding begin_of
     begin-did {paid} {cost} price pays =
         let t = view s in
@@ -113,7 +113,7 @@ module _ {s : State} (h : Sound s) (k : Slotted s) (who awaited : ℕ) (reads wr
         let formed : Stored a.reads a.writes = rw (reads-are, writes_are) lists in
         let cx-raised : Raised s.cx a.writes x = rw writes_are (rw (ap (λ (b : Request). b.writes) is) at up) in
         let cs-raised : Raised s.cs a.reads y = rw reads-are (rw (ap (λ (b : Request). b.reads) is) at up') in
-        let holds = rw own.0.is at (pushed-holds k.slots j.entry room own.0.tidy) in
+        let holds = rw own.0.is at (pushed-holds k.slots j.0 room own.0.tidy) in
         let meters = joined-meters s h.table.sixteen a who (ap (λ (b : Request). b.tenant) same) allowed.tenant (admission clause9 wanted) paid (pays ∙ ap (spent _) price) in
         tenant-done t who _ (admission clause9 wanted) (joined t a) (begun t.queue wanted) none
         (sound-burn (begin-sound clause9 h.table _ _ _ _ small allowed) who (admission clause9 wanted) allowed.tenant)

@@ -1,4 +1,5 @@
 pub mod Typed
+pub mod Modes
 pub mod Views
 pub mod Done
 pub mod Billing
@@ -6,6 +7,7 @@ pub mod Slots
 pub mod Marking
 pub mod Entries
 pub mod Rows
+pub mod Judging
 pub mod Leaving
 pub mod Delivering
 pub mod Opening

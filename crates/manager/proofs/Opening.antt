@@ -41,7 +41,7 @@ metered-all {i} {shares} {all} h le six =
     let b : length shares ≤ i = omega arith in
     ap (map meter_view) (sym (take_all i all a)) ∙ h.first ∙ ap (map new_meter) (take_all i shares b)
 
-pub fresh-becomes : (shares : List ℕ) (all : List Meter) (unused : Entry) (said : Said) {v w : List ℕ} → Empty v → Empty w → map meter_view all ≡ map new_meter shares → unused ≡ no_entry → Becomes (fresh shares) (record { cx = replicate 256 0; cs = replicate 256 0; written = v; read = w; meters = all; count = 0; entries = replicate 64 unused; said = said })
+pub fresh-becomes : (shares : List ℕ) (all : List Meter) (unused : Entry) (said : Said) {v w : List ℕ} → Empty v → Empty w → map meter_view all ≡ map new_meter shares → unused ≡ no_entry → Becomes (fresh shares) (record { cx = replicate 256 0; cs = replicate 256 0; maps = record { written = v; read = w }; meters = all; count = 0; entries = replicate 64 unused; said = said })
 unfolding fresh
 fresh-becomes shares all unused said v w same e =
     rw (← same) (queue-becomes all (none-holds unused e) (record { writers = counts-none (λ a. a.writes); readers = counts-none (λ a. a.reads); written = marks-none v; read = marks-none w }))

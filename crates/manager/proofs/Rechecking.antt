@@ -25,7 +25,7 @@ use Rattle.rules.proofs.Sound.{recheck-sound}
 use Rattle.meter.specs.declared.Meter.{Meter}
 use Rattle.meter.specs.View.{meter_view, no_meter}
 use Rattle.entry.specs.declared.Entry.{Entry}
-use Rattle.entry.specs.Entry.{blank, request, Tidy, Stands}
+use Rattle.entry.specs.Entry.{blank, request, Stands}
 use Rattle.entry.proofs.Typed.{Lists, bytes_small}
 use Rattle.counters.specs.Counters.{at as counter, Counts}
 use Rattle.manager.specs.declared.State.{State}
@@ -80,52 +80,45 @@ module _ {s : State} (h : Sound s) (k : Slotted s) (who serial : ℕ) {at : ℕ}
       go true open-way = rw open-way (recheck-sound h.table who serial passes.1 open-way)
       go false no_way = rw no_way h.table
 
-  -- the entry that was read
-  module _ {e : Entry} (read : e ≡ get_or s.entries at blank) where
-    entry : request e ≡ entry_of who serial (view s).queue
-    entry = ap request read ∙ entry-is k.slots who serial place (used k there)
+  entry : request (get_or s.entries at blank) ≡ entry_of who serial (view s).queue
+  entry = entry-is k.slots who serial place (used k there)
 
-    pub is-tidy : Tidy e
-    is-tidy = subst Tidy (sym read) (k.slots.neat.tidy at (used k there))
+  -- what the counters were asked
+  module _ (verdict : Bool) (told : verdict ≡ alone (counter s.cx) (counter s.cs) (request (get_or s.entries at blank))) where
+    is-clear : verdict ≡ clear (view s) who serial
+    is-clear = told ∙ alone-told h.tied.writers h.tied.readers _ (own-lists k there) ∙ ap (alone _ _) entry
 
-    -- the price is within the tenant's fuel
-    pub affords : (units : ℕ) → units ≡ size (request e) → {m : Meter} → meter_view m ≡ meter_of (view s) who → 1 + units ≤ m.fuel
-    affords units sized own = omega (arith, ap (λ (a : LawMeter). a.fuel) own, sized ∙ ap size entry, passes.2)
+    pub turned_clear : verdict ≡ true → {p : Entry} {answer : Answer} → Stands (promoted (request (get_or s.entries at blank))) p → answer ≡ named (request p) → Turned s who serial (with_entries s (set s.entries at p)) answer
+    turned_clear sure {p} stands says =
+        let open-way : clear (view s) who serial ≡ true = sym is-clear ∙ sure in
+        let made = makes-becomes h.tied k promoted promoted-lists (used k there) stands s.said in
+        let moved : promoted (get_or (view s).queue at nobody) ≡ promoted (entry_of who serial (view s).queue) = ap (λ (i : ℕ). promoted (get_or (view s).queue i nobody)) place in
+        record {
+          state = rw open-way (subst (λ (i : ℕ). Becomes (with_entry (view s) i (promoted (get_or (view s).queue i nobody))) (with_entries s (set s.entries at p))) place made);
+          says = rw open-way (says ∙ makes-named h.tied k promoted promoted-lists (used k there) stands ∙ ap named moved);
+          meters = refl;
+        }
 
-    module _ (verdict : Bool) (told : verdict ≡ alone (counter s.cx) (counter s.cs) (request e)) where
-      is-clear : verdict ≡ clear (view s) who serial
-      is-clear =
-          told
-          ∙ alone-told h.tied.writers h.tied.readers e (subst Lists (sym read) (own-lists k there))
-          ∙ ap (alone _ _) entry
+    pub turned-still : verdict ≡ false → Turned s who serial s Still
+    turned-still sure =
+        let no_way : clear (view s) who serial ≡ false = sym is-clear ∙ sure in
+        record { state = rw no_way (record { is = refl; tied = h.tied }); says = rw no_way refl; meters = refl }
 
-      pub turned_clear : verdict ≡ true → {p : Entry} {answer : Answer} → Stands (promoted (request e)) p → answer ≡ named (request p) → Turned s who serial (with_entries s (set s.entries at p)) answer
-      turned_clear sure {p} stands says =
-          let open-way : clear (view s) who serial ≡ true = sym is-clear ∙ sure in
-          let own : Stands (promoted (request (get_or s.entries at blank))) p = subst (λ (a : Entry). Stands (promoted (request a)) p) read stands in
-          let made = makes-becomes h.tied k promoted promoted-lists (used k there) own s.said in
-          let moved : promoted (get_or (view s).queue at nobody) ≡ promoted (entry_of who serial (view s).queue) = ap (λ (i : ℕ). promoted (get_or (view s).queue i nobody)) place in
-          record {
-            state = rw open-way (subst (λ (i : ℕ). Becomes (with_entry (view s) i (promoted (get_or (view s).queue i nobody))) (with_entries s (set s.entries at p))) place made);
-            says = rw open-way (says ∙ makes-named h.tied k promoted promoted-lists (used k there) own ∙ ap named moved);
-            meters = refl;
-          }
+  -- the tenant pays
+  module _ {n : State} {answer : Answer} (o : Turned s who serial n answer) {price : ℕ} (cost : price ≡ 1 + size (entry_of who serial (view s).queue)) where
+    own : meter_view (get_or n.meters (who - 1) no_meter) ≡ meter_of (view s) who
+    own = ap (λ (ms : List Meter). meter_view (get_or ms (who - 1) no_meter)) o.meters ∙ meter-view s who
 
-      pub turned-still : verdict ≡ false → Turned s who serial s Still
-      turned-still sure =
-          let no_way : clear (view s) who serial ≡ false = sym is-clear ∙ sure in
-          record { state = rw no_way (record { is = refl; tied = h.tied }); says = rw no_way refl; meters = refl }
+    pub affords : price ≤ (get_or n.meters (who - 1) no_meter).fuel
+    affords = omega (arith, ap (λ (a : LawMeter). a.fuel) own, cost, passes.2)
 
-    -- the tenant has paid
-    pub rechecks : {n : State} {answer : Answer} → Turned s who serial n answer → (units : ℕ) → units ≡ size (request e) → {m : Meter} → meter_view m ≡ meter_of (view s) who → (paid : Meter) → meter_view paid ≡ spent (meter_view m) (1 + units) → Did (record { cx = n.cx; cs = n.cs; written = n.written; read = n.read; meters = set n.meters (who - 1) paid; count = n.count; entries = n.entries; said = record { answer = answer; burnt = 1 + units } }) (recheck_of clause9 (view s) who serial)
+    pub rechecks : (paid : Meter) → meter_view paid ≡ spent (meter_view (get_or n.meters (who - 1) no_meter)) price → Did (record { cx = n.cx; cs = n.cs; maps = n.maps; meters = set n.meters (who - 1) paid; count = n.count; entries = n.entries; said = record { answer = answer; burnt = price } }) (recheck_of clause9 (view s) who serial)
     unfolding recheck_of
-    rechecks {n} {answer} o units sized {m} own paid pays-it =
+    rechecks paid pays-it =
         let t = view s in
-        let last = entry_of who serial t.queue in
-        let cost : 1 + units ≡ 1 + size last = ap (λ (u : ℕ). 1 + u) (sized ∙ ap size entry) in
-        let same : meter_view (get_or n.meters (who - 1) no_meter) ≡ meter_view m = ap (λ (ms : List Meter). meter_view (get_or ms (who - 1) no_meter)) o.meters ∙ meter-view s who ∙ sym own in
-        tenant-done t who _ (1 + size last) (turned t who serial) _ none
-        (sound-burn turned-sound who (1 + size last) passes.0)
-        (pays o.state who (1 + size last) paid _ (pays-it ∙ cc (same, cost)))
+        let due = 1 + size (entry_of who serial t.queue) in
+        tenant-done t who _ due (turned t who serial) _ none
+        (sound-burn turned-sound who due passes.0)
+        (pays o.state who due paid _ (pays-it ∙ ap (spent _) cost))
         o.says
         cost

@@ -2,7 +2,7 @@
 use Prim.Native.Nat.{ℕ, ◌+◌, ◌-◌, ◌≤◌, ◌<◌}
 use mathlib.Core.Path.{◌≡◌, refl, sym, ap, subst, ◌∙◌}
 use mathlib.Core.Bool.{true, false}
-use mathlib.Core.List.{List, []}
+use mathlib.Core.List.{[]}
 use native.Mathlib.Omega.{arith}
 use lib.ListN.{length, get_or, set}
 use Rattle.rules.specs.declared.Answer.{Answer}
@@ -16,6 +16,7 @@ use Rattle.rules.specs.Calls.{named, found-table, found-answer, search, scan_of}
 use Rattle.rules.proofs.Refusals.{scan-passes}
 use Rattle.rules.proofs.Keeps.{sound-burn}
 use Rattle.rules.proofs.Sound.{scan-sound}
+use Rattle.maps.specs.declared.Maps.{Maps}
 use Rattle.maps.specs.Maps.{Grown}
 use Rattle.meter.specs.declared.Meter.{Meter}
 use Rattle.meter.specs.View.{meter_view, no_meter}
@@ -44,7 +45,7 @@ pub over-moved : {s n r : State} {who burnt : ℕ} {begun left : Meter} {answer 
 over-moved {s} {n} {r} {who} {burnt} {begun} {left} {answer} same o =
     subst (λ (m : State). Over m who begun r left burnt answer) same o
 
-module _ {s : State} (t : Tied s) (k : Slotted s) {who i burnt : ℕ} {begun left : Meter} {written read : List ℕ} (w : Walking who begun (view s).queue i left burnt written read) where
+module _ {s : State} (t : Tied s) (k : Slotted s) {who i burnt : ℕ} {begun left : Meter} {ahead : Maps} (w : Walking who begun (view s).queue i left burnt ahead) where
   pub over_none : s.count ≤ i → Over s who begun s left burnt Nothing
   over_none past =
       let end : length (view s).queue ≤ i = omega (arith, requests-length k.slots) in
@@ -68,7 +69,7 @@ module _ {s : State} (t : Tied s) (k : Slotted s) {who i burnt : ℕ} {begun lef
     }
 
     module _ (rich : 1 + n ≤ left.fuel) (after : Meter) (pays : meter_view after ≡ spent (meter_view left) (1 + n)) where
-      pub over-found : fits who written read (request (get_or s.entries i blank)) ≡ true → {p : Entry} {answer : Answer} → Stands (promoted (request (get_or s.entries i blank))) p → answer ≡ named (request p) → Over s who begun (with_entries s (set s.entries i p)) after (burnt + (1 + n)) answer
+      pub over-found : fits who ahead (request (get_or s.entries i blank)) ≡ true → {p : Entry} {answer : Answer} → Stands (promoted (request (get_or s.entries i blank))) p → answer ≡ named (request p) → Over s who begun (with_entries s (set s.entries i p)) after (burnt + (1 + n)) answer
       over-found sure stands says = record {
         end = found i;
         looked = walking-found w _ there is n sized rich after pays sure;
@@ -77,7 +78,7 @@ module _ {s : State} (t : Tied s) (k : Slotted s) {who i burnt : ℕ} {begun lef
         says = says ∙ makes-named t k promoted promoted-lists inside stands;
       }
 
-      pub over-more : {x y : List ℕ} → fits who written read (request (get_or s.entries i blank)) ≡ false → Grown written (request (get_or s.entries i blank)).writes x → Grown read (request (get_or s.entries i blank)).reads y → Walking who begun (view s).queue (i + 1) after (burnt + (1 + n)) x y
+      pub over-more : {next : Maps} → fits who ahead (request (get_or s.entries i blank)) ≡ false → Grown ahead.written (request (get_or s.entries i blank)).writes next.written → Grown ahead.read (request (get_or s.entries i blank)).reads next.read → Walking who begun (view s).queue (i + 1) after (burnt + (1 + n)) next
       over-more no-fit g h = walking-more w _ there is n sized rich after pays no-fit g h
 
 -- ---- the whole search
@@ -107,7 +108,7 @@ whole-search {t} {begun} {left} {end} {burnt} who wet is l =
     }
 
 -- the meter that paid is put back, and the call says how it ended
-pub over-did : {s n : State} → Sound s → (who : ℕ) → first_of (scan_rows (view s) who) ≡ 0 → {begun left : Meter} {burnt : ℕ} {answer : Answer} → meter_view begun ≡ spent (meter_view (get_or s.meters (who - 1) no_meter)) 1 → Over s who begun n left burnt answer → Did (record { cx = n.cx; cs = n.cs; written = n.written; read = n.read; meters = set n.meters (who - 1) left; count = n.count; entries = n.entries; said = record { answer = answer; burnt = 1 + burnt } }) (scan_of clause9 (view s) who)
+pub over-did : {s n : State} → Sound s → (who : ℕ) → first_of (scan_rows (view s) who) ≡ 0 → {begun left : Meter} {burnt : ℕ} {answer : Answer} → meter_view begun ≡ spent (meter_view (get_or s.meters (who - 1) no_meter)) 1 → Over s who begun n left burnt answer → Did (record { cx = n.cx; cs = n.cs; maps = n.maps; meters = set n.meters (who - 1) left; count = n.count; entries = n.entries; said = record { answer = answer; burnt = 1 + burnt } }) (scan_of clause9 (view s) who)
 unfolding scan_of
 over-did {s} {n} h who none {begun} {left} {burnt} {answer} unit o =
     let t = view s in

@@ -113,11 +113,11 @@ view-injective s u v w same words =
     let tied = v.sound.tied in
     let writers : s.cx ≡ u.cx = counts-unique (λ e. e.writes) s.cx u.cx (view u).queue v.sized.writers w.sized.writers (subst (Counts (λ e. e.writes) s.cx) list tied.writers) w.sound.tied.writers in
     let readers : s.cs ≡ u.cs = counts-unique (λ e. e.reads) s.cs u.cs (view u).queue v.sized.readers w.sized.readers (subst (Counts (λ e. e.reads) s.cs) list tied.readers) w.sound.tied.readers in
-    let written : s.written ≡ u.written = marks-unique v.sized.written w.sized.written (subst (Marks s.written) writers tied.written) w.sound.tied.written in
-    let read : s.read ≡ u.read = marks-unique v.sized.read w.sized.read (subst (Marks s.read) readers tied.read) w.sound.tied.read in
+    let written : s.maps.written ≡ u.maps.written = marks-unique v.sized.written w.sized.written (subst (Marks s.maps.written) writers tied.written) w.sound.tied.written in
+    let read : s.maps.read ≡ u.maps.read = marks-unique v.sized.read w.sized.read (subst (Marks s.maps.read) readers tied.read) w.sound.tied.read in
     let meters : s.meters ≡ u.meters = sym (meters-back s.meters) ∙ ap (λ (t : Table). map meter_back t.meters) same ∙ meters-back u.meters in
     let queue : queue_of s ≡ queue_of u = sym (queue-back s v) ∙ ap queue_back list ∙ queue-back u w in
-    λ i. record { cx = writers i; cs = readers i; written = written i; read = read i; meters = meters i; count = (queue i).count; entries = (queue i).entries; said = words i }
+    λ i. record { cx = writers i; cs = readers i; maps = record { written = written i; read = read i }; meters = meters i; count = (queue i).count; entries = (queue i).entries; said = words i }
 
 -- ---- a result
 did-unique : {o : Outcome} {r r' : State} → Allowed o r → Allowed o r' → r ≡ r'

@@ -15,7 +15,7 @@ use Rattle.manager.specs.State.{view, Tied, Sound, Becomes, Did}
 
 -- the same state with other words
 abbrev pub saying : State → Said → State
-saying s said = record { cx = s.cx; cs = s.cs; written = s.written; read = s.read; meters = s.meters; count = s.count; entries = s.entries; said = said }
+saying s said = record { cx = s.cx; cs = s.cs; maps = s.maps; meters = s.meters; count = s.count; entries = s.entries; said = said }
 
 -- what is said is no part of the table
 pub still-becomes : {s : State} → Tied s → (said : Said) → Becomes (view s) (saying s said)
@@ -29,14 +29,14 @@ pub meter-view : (s : State) (who : ℕ) → meter_view (get_or s.meters (who - 
 meter-view s who = sym (get_or-map meter_view s.meters (who - 1) no_meter)
 
 -- another meter
-pub meter-becomes : {s : State} → Tied s → (who : ℕ) (m : Meter) (said : Said) → Becomes (with_meter (view s) who (meter_view m)) (record { cx = s.cx; cs = s.cs; written = s.written; read = s.read; meters = set s.meters (who - 1) m; count = s.count; entries = s.entries; said = said })
+pub meter-becomes : {s : State} → Tied s → (who : ℕ) (m : Meter) (said : Said) → Becomes (with_meter (view s) who (meter_view m)) (record { cx = s.cx; cs = s.cs; maps = s.maps; meters = set s.meters (who - 1) m; count = s.count; entries = s.entries; said = said })
 meter-becomes {s} t who m said = record {
   is = ap (λ (ms : List LawMeter). record { meters = ms; queue = (view s).queue }) (map-set meter_view s.meters (who - 1) m);
   tied = record { writers = t.writers; readers = t.readers; written = t.written; read = t.read; neat = t.neat };
 }
 
 -- a tenant has paid
-pub pays : {t : Table} {n : State} → Becomes t n → (who price : ℕ) (m : Meter) (said : Said) → meter_view m ≡ spent (meter_view (get_or n.meters (who - 1) no_meter)) price → Becomes (burn who price t) (record { cx = n.cx; cs = n.cs; written = n.written; read = n.read; meters = set n.meters (who - 1) m; count = n.count; entries = n.entries; said = said })
+pub pays : {t : Table} {n : State} → Becomes t n → (who price : ℕ) (m : Meter) (said : Said) → meter_view m ≡ spent (meter_view (get_or n.meters (who - 1) no_meter)) price → Becomes (burn who price t) (record { cx = n.cx; cs = n.cs; maps = n.maps; meters = set n.meters (who - 1) m; count = n.count; entries = n.entries; said = said })
 pays {t} {n} b who price m said is =
     let own : meter_view m ≡ spent (meter_of (view n) who) price = is ∙ ap (λ (a : LawMeter). spent a price) (meter-view n who) in
     rw (← b.is) (rw own at (meter-becomes b.tied who m said))

@@ -8,21 +8,22 @@ use native.Mathlib.Omega.{arith}
 use lib.Dec.{eqb}
 use lib.ListN.{length, get_or, take, drop, length-take, drop_of_length-le}
 use lib.Seq.{take-suc}
-use borrow.Author.Tests.{lt-ltb, le-ltb}
+use borrow.Author.Tests.{eq-eqb, ne_eqb, lt-ltb, le-ltb}
 use Rattle.rules.specs.Lists.{some, total}
 use Rattle.rules.specs.Records.{member}
 use Rattle.rules.specs.Request.{Request, nobody, size, conflicts_any, is_blocked}
 use Rattle.rules.specs.Table.{Meter as LawMeter, spent}
 use Rattle.rules.specs.Prices.{clause9, looks}
 use Rattle.rules.specs.Scan.{Walk, End, found, nothing, short, scan_walk, qualifies, Maps, no_records, mapped, maps_over, clear_by}
+use Rattle.rules.proofs.Tests.{and-false}
 use Rattle.rules.proofs.Lists.{some-cong}
 use Rattle.rules.proofs.Prices.{looks-last}
 use Rattle.rules.proofs.Steps.{list-step}
 use Rattle.rules.proofs.Verdicts.{maps-conflicts}
-use Rattle.maps.specs.Maps.{Empty, Grown}
+use Rattle.maps.specs.declared.Maps.{Maps as CodeMaps}
+use Rattle.maps.specs.Maps.{maps_of, Empty, Grown}
 use Rattle.meter.specs.declared.Meter.{Meter}
 use Rattle.meter.specs.View.{meter_view}
-use Rattle.manager.specs.Search.{maps_of}
 
 -- ---- the maps
 -- two pairs of maps that hold the same records
@@ -43,7 +44,7 @@ unfolding maps_over
 over_last m [] e = refl
 over_last m (a ∷ q) e = over_last (mapped m a) q e
 
-pub maps-more : {written read w r : List ℕ} (q : List Request) (e : Request) → SameMaps (maps_of written read) (maps_over no_records q) → Grown written e.writes w → Grown read e.reads r → SameMaps (maps_of w r) (maps_over no_records (q ++ e ∷ []))
+pub maps-more : {ahead next : CodeMaps} (q : List Request) (e : Request) → SameMaps (maps_of ahead) (maps_over no_records q) → Grown ahead.written e.writes next.written → Grown ahead.read e.reads next.read → SameMaps (maps_of next) (maps_over no_records (q ++ e ∷ []))
 maps-more q e s g h =
     rw (over_last no_records q e)
     (record { written = λ k. g.each k ∙ ap (λ (b : Bool). b || member k e.writes) (s.written k); read = λ k. h.each k ∙ ap (λ (b : Bool). b || member k e.reads) (s.read k) })
@@ -56,17 +57,31 @@ pub record Looked (w : Walk) (m : Meter) (end : End) (left : Meter) (burnt : ℕ
   pub paid : meter_view left ≡ spent (meter_view m) (looks clause9 w.looked)
 
 -- an entry that the walk stops at, as the code tests it: the caller's, Blocked, and clear by the maps
-abbrev pub fits : ℕ → List ℕ → List ℕ → Request → Bool
-fits who written read e = (eqb e.tenant who && is_blocked e.mode) && clear_by (maps_of written read) e
+abbrev pub fits : ℕ → CodeMaps → Request → Bool
+fits who ahead e = (eqb e.tenant who && is_blocked e.mode) && clear_by (maps_of ahead) e
 
-pub record Walking (who : ℕ) (m : Meter) (l : List Request) (i : ℕ) (left : Meter) (burnt : ℕ) (written read : List ℕ) : Type 0 where
+-- it is one by all three tests, and none if one of them fails
+module _ (who : ℕ) (ahead : CodeMaps) (e : Request) where
+  pub fits-all : e.tenant ≡ who → is_blocked e.mode ≡ true → clear_by (maps_of ahead) e ≡ true → fits who ahead e ≡ true
+  fits-all own blocked clear = rw (eq-eqb _ _ own, blocked, clear) refl
+
+  pub other-passed : (e.tenant ≡ who → ⊥) → fits who ahead e ≡ false
+  other-passed other = rw (ne_eqb _ _ other) refl
+
+  pub unblocked-passed : is_blocked e.mode ≡ false → fits who ahead e ≡ false
+  unblocked-passed on = simp (on, and-false)
+
+  pub unclear-passed : clear_by (maps_of ahead) e ≡ false → fits who ahead e ≡ false
+  unclear-passed clash = simp (clash, and-false)
+
+pub record Walking (who : ℕ) (m : Meter) (l : List Request) (i : ℕ) (left : Meter) (burnt : ℕ) (ahead : CodeMaps) : Type 0 where
   pub rest : scan_walk clause9 who m.fuel [] l ≡ scan_walk clause9 who left.fuel (take i l) (drop i l)
   pub cost : burnt ≡ looks clause9 (take i l)
   pub whole : burnt + left.fuel ≡ m.fuel
   pub paid : meter_view left ≡ spent (meter_view m) burnt
-  pub maps : SameMaps (maps_of written read) (maps_over no_records (take i l))
+  pub maps : SameMaps (maps_of ahead) (maps_over no_records (take i l))
 
-pub walking-none : (who : ℕ) (m : Meter) (l : List Request) {written read : List ℕ} → Empty written → Empty read → Walking who m l 0 m 0 written read
+pub walking-none : (who : ℕ) (m : Meter) (l : List Request) {ahead : CodeMaps} → Empty ahead.written → Empty ahead.read → Walking who m l 0 m 0 ahead
 unfolding looks total maps_over
 walking-none who m l w r = record {
   rest = refl;
@@ -76,7 +91,7 @@ walking-none who m l w r = record {
   maps = record { written = w.each; read = r.each };
 }
 
-module _ {who i burnt : ℕ} {m left : Meter} {l : List Request} {written read : List ℕ} (s : Walking who m l i left burnt written read) where
+module _ {who i burnt : ℕ} {m left : Meter} {l : List Request} {ahead : CodeMaps} (s : Walking who m l i left burnt ahead) where
   pub walking-end : length l ≤ i → Looked (scan_walk clause9 who m.fuel [] l) m nothing left burnt
   unfolding scan_walk
   walking-end past =
@@ -112,20 +127,20 @@ module _ {who i burnt : ℕ} {m left : Meter} {l : List Request} {written read :
       costs : burnt + (1 + n) ≡ looks clause9 (take i l ++ e ∷ [])
       costs = omega (arith, s.cost, looks-last clause9 (take i l) e)
 
-      verdict : qualifies who (take i l) e ≡ fits who written read e
+      verdict : qualifies who (take i l) e ≡ fits who ahead e
       verdict =
-          let clear : clear_by (maps_of written read) e ≡ not (conflicts_any (take i l) e) = clear-same s.maps e ∙ maps-conflicts (take i l) e in
+          let clear : clear_by (maps_of ahead) e ≡ not (conflicts_any (take i l) e) = clear-same s.maps e ∙ maps-conflicts (take i l) e in
           sym (ap (λ (b : Bool). (eqb e.tenant who && is_blocked e.mode) && b) clear)
 
-      pub walking-found : fits who written read e ≡ true → Looked (scan_walk clause9 who m.fuel [] l) m (found i) after (burnt + (1 + n))
+      pub walking-found : fits who ahead e ≡ true → Looked (scan_walk clause9 who m.fuel [] l) m (found i) after (burnt + (1 + n))
       unfolding scan_walk
       walking-found sure =
           let place : i ≡ length (take i l) = sym (length-take i l ∙ let k : min i (length l) ≡ i = omega arith in k) in
           rw (on, le-ltb left.fuel (1 + size e) (omega arith), verdict ∙ sure) (record { ends = ap found place; burns = costs; paid = spends ∙ ap (spent (meter_view m)) costs })
 
-      pub walking-more : {w r : List ℕ} → fits who written read e ≡ false → Grown written e.writes w → Grown read e.reads r → Walking who m l (i + 1) after (burnt + (1 + n)) w r
+      pub walking-more : {next-maps : CodeMaps} → fits who ahead e ≡ false → Grown ahead.written e.writes next-maps.written → Grown ahead.read e.reads next-maps.read → Walking who m l (i + 1) after (burnt + (1 + n)) next-maps
       unfolding scan_walk
-      walking-more {w} {r} no-fit g h =
+      walking-more {next-maps} no-fit g h =
           let fuel : after.fuel ≡ left.fuel - (1 + size e) = ap (λ (a : LawMeter). a.fuel) pays ∙ ap (λ (k : ℕ). left.fuel - (1 + k)) sized in
           let turn : scan_walk clause9 who left.fuel (take i l) (e ∷ drop (i + 1) l) ≡ scan_walk clause9 who after.fuel (take i l ++ e ∷ []) (drop (i + 1) l) = rw (le-ltb left.fuel (1 + size e) (omega arith), verdict ∙ no-fit, fuel) refl in
           record {
@@ -133,5 +148,5 @@ module _ {who i burnt : ℕ} {m left : Meter} {l : List Request} {written read :
             cost = costs ∙ ap (looks clause9) (sym next);
             whole = omega arith;
             paid = spends;
-            maps = subst (λ (t : List Request). SameMaps (maps_of w r) (maps_over no_records t)) (sym next) (maps-more (take i l) e s.maps g h);
+            maps = subst (λ (t : List Request). SameMaps (maps_of next-maps) (maps_over no_records t)) (sym next) (maps-more (take i l) e s.maps g h);
           }

@@ -18,8 +18,8 @@ view s = record { meters = map meter_view s.meters; queue = requests (queue_of s
 pub record Tied (s : State) : Type 0 where
   pub writers : Counts (λ e. e.writes) s.cx (view s).queue
   pub readers : Counts (λ e. e.reads) s.cs (view s).queue
-  pub written : Marks s.written s.cx
-  pub read : Marks s.read s.cs
+  pub written : Marks s.maps.written s.cx
+  pub read : Marks s.maps.read s.cs
   pub neat : Neat (queue_of s)
 
 -- sound, as Open makes it and each call keeps it

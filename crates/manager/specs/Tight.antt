@@ -15,8 +15,8 @@ use Rattle.manager.specs.State.{view, Sound, Did}
 pub record Sized (s : State) : Type 0 where
   pub writers : length s.cx ≡ 256
   pub readers : length s.cs ≡ 256
-  pub written : Words s.written
-  pub read : Words s.read
+  pub written : Words s.maps.written
+  pub read : Words s.maps.read
   pub slots : length s.entries ≡ 64
   pub reads : (i : ℕ) → i < 64 → length (get_or s.entries i blank).reads ≡ 8
   pub writes : (i : ℕ) → i < 64 → length (get_or s.entries i blank).writes ≡ 8

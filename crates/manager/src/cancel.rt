@@ -1,31 +1,26 @@
 // Cancel: a tenant takes its own Blocked entry out, which burns 1. What its admission burnt is not given back.
 ghost use Rattle.std.specs.Prelude.{◌≡◌};
 ghost use Rattle.rules.specs.Prices.{prices_of};
-ghost use Rattle.rules.specs.Refusals.{first_of};
+ghost use Rattle.rules.specs.Refusals.{stands_at, cancel_rows};
 ghost use Rattle.rules.specs.Calls.{cancel_of};
 ghost use Rattle.manager.specs.State.{view, Sound, Did};
-ghost use Rattle.manager.specs.Rows.{cancel_by};
+ghost use Rattle.manager.specs.Rows.{RefusedOr};
 
-use super::{meters, places, refusal, tenants};
+use super::{meters, places, refusal};
 use crate::State;
+use rules::{Mode, Refusal};
 
-// Refusals in the order 1, 2, 10, 11.
-fn refusal(tenant: bool, fuel: u32, absent: bool, blocked: bool) -> u8
-    ensures { result ≡ first_of (cancel_by tenant fuel absent blocked) }
+// Refusals in the order 1, 2, 10, 11; where none applies, the place of the entry.
+fn judged(s: &State, who: u8, serial: u16) -> Result<usize, Refusal>
+    requires { Sound s.now }
+    ensures { RefusedOr (cancel_rows (view s.now) who serial) (λ at. at ≡ stands_at who serial (view s.now).queue) result }
 {
-    if !tenant {
-        return 1;
+    meters::payer(s, who)?;
+    let at = places::place_of(s, who, serial).ok_or(Refusal::Absent)?;
+    if s.entries[at].mode != Mode::Blocked {
+        return Err(Refusal::WrongState);
     }
-    if fuel == 0 {
-        return 2;
-    }
-    if absent {
-        return 10;
-    }
-    if !blocked {
-        return 11;
-    }
-    0
+    Ok(at)
 }
 
 pub fn cancel(s: State, who: u8, serial: u16) -> State
@@ -33,34 +28,13 @@ pub fn cancel(s: State, who: u8, serial: u16) -> State
     ensures { Did result (cancel_of (prices_of (view s)) (view s) who serial) }
 {
     let mut n = s;
-    let count = n.count;
-    let mut at: usize = 0;
-    while at < count {
-        if n.entries[at].tenant == who && n.entries[at].serial == serial {
-            break;
+    match judged(&n, who, serial) {
+        Ok(at) => {
+            let k = (who - 1) as usize;
+            n.meters[k] = meter::charged(n.meters[k], 1);
+            places::release(&mut n, at, 1);
         }
-        at += 1;
+        Err(why) => refusal::refuse(&mut n, who, why),
     }
-    let tenant = tenants::is_tenant(who);
-    let all = n.meters;
-    let m = meters::meter_of(all, who);
-    let mut blocked = false;
-    if at < count {
-        let e = n.entries[at];
-        let mode = e.mode;
-        blocked = entry::is_blocked(mode);
-    }
-    let number = refusal(tenant, m.fuel, count <= at, blocked);
-    if number != 0 {
-        let bill = refusal::billed(all, who, number);
-        let next = bill.meters;
-        let said = bill.said;
-        n.meters = next;
-        n.said = said;
-        return n;
-    }
-    let paid = meter::charged(m, 1);
-    let k = (who - 1) as usize;
-    n.meters[k] = paid;
-    places::released(n, at, 1)
+    n
 }

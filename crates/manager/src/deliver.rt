@@ -1,28 +1,27 @@
 // Deliver: one remote answer fewer is due. A Blocked entry stays Blocked.
 ghost use Rattle.std.specs.Prelude.{◌≡◌};
-ghost use Rattle.rules.specs.Refusals.{first_of};
+ghost use Rattle.rules.specs.Refusals.{stands_at, deliver_rows};
 ghost use Rattle.rules.specs.Calls.{deliver_of};
 ghost use Rattle.manager.specs.State.{view, Sound, Did};
-ghost use Rattle.manager.specs.Rows.{deliver_by};
+ghost use Rattle.manager.specs.Rows.{RefusedOr};
 
-use super::tenants;
+use super::{places, refusal, tenants};
 use crate::{Said, State};
-use rules::Answer;
+use rules::Refusal;
 
-// Refusals in the order 1, 10, 12.
-fn refusal(tenant: bool, absent: bool, due: u8) -> u8
-    ensures { result ≡ first_of (deliver_by tenant absent due) }
+// Refusals in the order 1, 10, 12; where none applies, the place of the entry.
+fn judged(s: &State, who: u8, serial: u16) -> Result<usize, Refusal>
+    requires { Sound s.now }
+    ensures { RefusedOr (deliver_rows (view s.now) who serial) (λ at. at ≡ stands_at who serial (view s.now).queue) result }
 {
-    if !tenant {
-        return 1;
+    if !tenants::is_tenant(who) {
+        return Err(Refusal::NoTenant);
     }
-    if absent {
-        return 10;
+    let at = places::place_of(s, who, serial).ok_or(Refusal::Absent)?;
+    if s.entries[at].due == 0 {
+        return Err(Refusal::NothingDue);
     }
-    if due == 0 {
-        return 12;
-    }
-    0
+    Ok(at)
 }
 
 pub fn deliver(s: State, who: u8, serial: u16) -> State
@@ -30,31 +29,16 @@ pub fn deliver(s: State, who: u8, serial: u16) -> State
     ensures { Did result (deliver_of (view s) who serial) }
 {
     let mut n = s;
-    let count = n.count;
-    let mut at: usize = 0;
-    while at < count {
-        if n.entries[at].tenant == who && n.entries[at].serial == serial {
-            break;
+    match judged(&n, who, serial) {
+        Ok(at) => {
+            let e = n.entries[at].delivered();
+            n.entries[at] = e;
+            n.said = Said {
+                answer: e.named(),
+                burnt: 0,
+            };
         }
-        at += 1;
+        Err(why) => n.said = refusal::of_host(why),
     }
-    let tenant = tenants::is_tenant(who);
-    let mut due: u8 = 0;
-    if at < count {
-        due = n.entries[at].due;
-    }
-    let number = refusal(tenant, count <= at, due);
-    let mut answer = Answer::Refused(number);
-    if number == 0 {
-        let e = n.entries[at];
-        let d = entry::delivered(e);
-        n.entries[at] = d;
-        answer = entry::named(d);
-    }
-    let said = Said {
-        answer: answer,
-        burnt: 0,
-    };
-    n.said = said;
     n
 }

@@ -1,25 +1,23 @@
 // Evict, a host call: an entry leaves, in whatever state it is. It burns nothing, and gives no fuel back.
 ghost use Rattle.std.specs.Prelude.{◌≡◌};
-ghost use Rattle.rules.specs.Refusals.{first_of};
+ghost use Rattle.rules.specs.Refusals.{stands_at, evict_rows};
 ghost use Rattle.rules.specs.Calls.{evict_of};
 ghost use Rattle.manager.specs.State.{view, Sound, Did};
-ghost use Rattle.manager.specs.Rows.{evict_by};
+ghost use Rattle.manager.specs.Rows.{RefusedOr};
 
-use super::{places, tenants};
-use crate::{Said, State};
-use rules::Answer;
+use super::{places, refusal, tenants};
+use crate::State;
+use rules::Refusal;
 
-// Refusals in the order 1, 10.
-fn refusal(tenant: bool, absent: bool) -> u8
-    ensures { result ≡ first_of (evict_by tenant absent) }
+// Refusals in the order 1, 10; where none applies, the place of the entry.
+fn judged(s: &State, who: u8, serial: u16) -> Result<usize, Refusal>
+    requires { Sound s.now }
+    ensures { RefusedOr (evict_rows (view s.now) who serial) (λ at. at ≡ stands_at who serial (view s.now).queue) result }
 {
-    if !tenant {
-        return 1;
+    if !tenants::is_tenant(who) {
+        return Err(Refusal::NoTenant);
     }
-    if absent {
-        return 10;
-    }
-    0
+    places::place_of(s, who, serial).ok_or(Refusal::Absent)
 }
 
 pub fn evict(s: State, who: u8, serial: u16) -> State
@@ -27,23 +25,9 @@ pub fn evict(s: State, who: u8, serial: u16) -> State
     ensures { Did result (evict_of (view s) who serial) }
 {
     let mut n = s;
-    let count = n.count;
-    let mut at: usize = 0;
-    while at < count {
-        if n.entries[at].tenant == who && n.entries[at].serial == serial {
-            break;
-        }
-        at += 1;
+    match judged(&n, who, serial) {
+        Ok(at) => places::release(&mut n, at, 0),
+        Err(why) => n.said = refusal::of_host(why),
     }
-    let tenant = tenants::is_tenant(who);
-    let number = refusal(tenant, count <= at);
-    if number != 0 {
-        let said = Said {
-            answer: Answer::Refused(number),
-            burnt: 0,
-        };
-        n.said = said;
-        return n;
-    }
-    places::released(n, at, 0)
+    n
 }

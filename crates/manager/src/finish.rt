@@ -1,31 +1,31 @@
 // Finish: a Free entry leaves, and burns nothing: its release was paid at admission.
 ghost use Rattle.std.specs.Prelude.{◌≡◌};
 ghost use Rattle.rules.specs.Prices.{prices_of};
-ghost use Rattle.rules.specs.Refusals.{first_of};
+ghost use Rattle.rules.specs.Refusals.{stands_at, finish_rows};
 ghost use Rattle.rules.specs.Calls.{finish_of};
 ghost use Rattle.manager.specs.State.{view, Sound, Did};
-ghost use Rattle.manager.specs.Rows.{finish_by};
+ghost use Rattle.manager.specs.Rows.{RefusedOr};
 
 use super::{meters, places, refusal, tenants};
 use crate::State;
+use rules::{Mode, Refusal};
 
-// Refusal 1; then a Free entry of that name succeeds even on a dry tank; then 2, 10, 11.
-fn refusal(tenant: bool, fuel: u32, absent: bool, free: bool) -> u8
-    ensures { result ≡ first_of (finish_by tenant fuel absent free) }
+// Refusal 1; then a Free entry of that name succeeds even on a dry tank, and its place is given; then 2, 10, 11.
+fn judged(s: &State, who: u8, serial: u16) -> Result<usize, Refusal>
+    requires { Sound s.now }
+    ensures { RefusedOr (finish_rows (view s.now) who serial) (λ at. at ≡ stands_at who serial (view s.now).queue) result }
 {
-    if !tenant {
-        return 1;
+    if !tenants::is_tenant(who) {
+        return Err(Refusal::NoTenant);
     }
-    if !absent && free {
-        return 0;
+    let dry = meters::meter_of(&s.meters, who).fuel == 0;
+    let place = places::place_of(s, who, serial);
+    match place {
+        Some(at) if s.entries[at].mode == Mode::Free => Ok(at),
+        _ if dry => Err(Refusal::Dry),
+        Some(_) => Err(Refusal::WrongState),
+        None => Err(Refusal::Absent),
     }
-    if fuel == 0 {
-        return 2;
-    }
-    if absent {
-        return 10;
-    }
-    11
 }
 
 pub fn finish(s: State, who: u8, serial: u16) -> State
@@ -33,31 +33,9 @@ pub fn finish(s: State, who: u8, serial: u16) -> State
     ensures { Did result (finish_of (prices_of (view s)) (view s) who serial) }
 {
     let mut n = s;
-    let count = n.count;
-    let mut at: usize = 0;
-    while at < count {
-        if n.entries[at].tenant == who && n.entries[at].serial == serial {
-            break;
-        }
-        at += 1;
+    match judged(&n, who, serial) {
+        Ok(at) => places::release(&mut n, at, 0),
+        Err(why) => refusal::refuse(&mut n, who, why),
     }
-    let tenant = tenants::is_tenant(who);
-    let all = n.meters;
-    let m = meters::meter_of(all, who);
-    let mut free = false;
-    if at < count {
-        let e = n.entries[at];
-        let mode = e.mode;
-        free = entry::is_free(mode);
-    }
-    let number = refusal(tenant, m.fuel, count <= at, free);
-    if number != 0 {
-        let bill = refusal::billed(all, who, number);
-        let next = bill.meters;
-        let said = bill.said;
-        n.meters = next;
-        n.said = said;
-        return n;
-    }
-    places::released(n, at, 0)
+    n
 }

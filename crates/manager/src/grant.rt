@@ -1,28 +1,30 @@
 // Grant: adds fuel.
-ghost use Rattle.std.specs.Prelude.{◌≡◌, ◌≤◌};
-ghost use Rattle.rules.specs.Table.{most_fuel};
-ghost use Rattle.rules.specs.Refusals.{first_of};
+ghost use Rattle.std.specs.Prelude.{◌≡◌};
+ghost use Rattle.rules.specs.Table.{meter_of};
+ghost use Rattle.rules.specs.Refusals.{grant_rows};
 ghost use Rattle.rules.specs.Calls.{grant_of};
+ghost use Rattle.meter.specs.View.{meter_view};
 ghost use Rattle.manager.specs.State.{view, Sound, Did};
-ghost use Rattle.manager.specs.Rows.{grant_by};
+ghost use Rattle.manager.specs.Rows.{RefusedOr};
 
-use super::{meters, tenants};
+use super::{meters, refusal, tenants};
 use crate::{Said, State};
-use rules::Answer;
+use meter::Meter;
+use rules::{Answer, Refusal};
 
-// Refusals in the order 1, 13.
-fn refusal(tenant: bool, fuel: u32, amount: u32) -> u8
-    requires { fuel ≤ most_fuel }
-    ensures { result ≡ first_of (grant_by tenant fuel amount) }
+// Refusals in the order 1, 13; where none applies, the tenant's meter.
+fn judged(s: &State, who: u8, amount: u32) -> Result<Meter, Refusal>
+    requires { Sound s.now }
+    ensures { RefusedOr (grant_rows (view s.now) who amount) (λ m. meter_view m ≡ meter_of (view s.now) who) result }
 {
-    if !tenant {
-        return 1;
+    if !tenants::is_tenant(who) {
+        return Err(Refusal::NoTenant);
     }
-    let room = 1_000_000_000 - fuel;
-    if room < amount {
-        return 13;
+    let m = meters::meter_of(&s.meters, who);
+    if 1_000_000_000 - m.fuel < amount {
+        return Err(Refusal::TooMuchFuel);
     }
-    0
+    Ok(m)
 }
 
 pub fn grant(s: State, who: u8, amount: u32) -> State
@@ -30,21 +32,15 @@ pub fn grant(s: State, who: u8, amount: u32) -> State
     ensures { Did result (grant_of (view s) who amount) }
 {
     let mut n = s;
-    let tenant = tenants::is_tenant(who);
-    let all = n.meters;
-    let m = meters::meter_of(all, who);
-    let number = refusal(tenant, m.fuel, amount);
-    let mut answer = Answer::Refused(number);
-    if number == 0 {
-        let i = (who - 1) as usize;
-        let more = meter::granted(m, amount);
-        n.meters[i] = more;
-        answer = Answer::Ok;
-    }
-    let said = Said {
-        answer: answer,
-        burnt: 0,
+    n.said = match judged(&n, who, amount) {
+        Ok(m) => {
+            n.meters[(who - 1) as usize] = meter::granted(m, amount);
+            Said {
+                answer: Answer::Ok,
+                burnt: 0,
+            }
+        }
+        Err(why) => refusal::of_host(why),
     };
-    n.said = said;
     n
 }

@@ -11,16 +11,11 @@ pub fn held(s: State) -> Tally
     requires { Sound s }
     ensures { result ≡ held_of (view s) }
 {
-    let written = s.written;
-    let read = s.read;
-    let mut both = s.written;
-    maps::join(&mut both, &read);
-    let w = maps::ones(written);
-    let r = maps::ones(read);
-    let e = maps::ones(both);
+    let mut both = s.maps.written;
+    maps::join(&mut both, &s.maps.read);
     Tally {
-        written: w,
-        read: r,
-        either: e,
+        written: maps::ones(s.maps.written),
+        read: maps::ones(s.maps.read),
+        either: maps::ones(both),
     }
 }

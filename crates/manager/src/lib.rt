@@ -3,6 +3,7 @@
 #![tactic(auto)]
 
 use entry::Entry;
+use maps::Maps;
 use meter::Meter;
 use rules::Answer;
 
@@ -30,13 +31,13 @@ pub struct Said {
 }
 
 // The counters Cx and Cs of the records, the maps of the records with Cx and with Cs above 0, the meters of the tenants 1 to 16,
-// the queue in its first `count` slots, front first, and what the last call said.
+// the queue in its first `count` slots, front first (fixed memory: no heap), and what the last call said. That it is sound is asked by
+// the calls and not said by the type: `OfRun.sound` is the theorem that an opening makes it so, and each call keeps it.
 #[derive(Clone, Copy)]
 pub struct State {
     pub cx: [u8; 256],
     pub cs: [u8; 256],
-    pub written: [u64; 4],
-    pub read: [u64; 4],
+    pub maps: Maps,
     pub meters: [Meter; 16],
     pub count: usize,
     pub entries: [Entry; 64],

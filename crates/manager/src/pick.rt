@@ -3,7 +3,7 @@ ghost use Rattle.rules.specs.Calls.{pick_of};
 ghost use Rattle.manager.specs.State.{view, Sound, Did};
 
 use crate::{Said, State};
-use rules::Answer;
+use rules::{Answer, Mode};
 
 pub fn pick(s: State) -> State
     requires { Sound s }
@@ -11,19 +11,11 @@ pub fn pick(s: State) -> State
 {
     let mut n = s;
     let mut answer = Answer::Nothing;
-    if 0 < n.count {
-        let e = n.entries[0];
-        let mode = e.mode;
-        if entry::is_blocked(mode) {
-            let p = entry::promoted(e);
-            n.entries[0] = p;
-            answer = entry::named(p);
-        }
+    if 0 < n.count && n.entries[0].mode == Mode::Blocked {
+        let p = n.entries[0].promoted();
+        n.entries[0] = p;
+        answer = p.named();
     }
-    let said = Said {
-        answer: answer,
-        burnt: 0,
-    };
-    n.said = said;
+    n.said = Said { answer, burnt: 0 };
     n
 }

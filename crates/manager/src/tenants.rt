@@ -17,7 +17,5 @@ pub fn is_tenant(who: u8) -> bool
 pub fn fuel_of(s: State, who: u8) -> u32
     ensures { result ≡ (if is_tenant who then (meter_of (view s) who).fuel else 0) }
 {
-    let all = s.meters;
-    let m = meters::meter_of(all, who);
-    m.fuel
+    meters::meter_of(&s.meters, who).fuel
 }

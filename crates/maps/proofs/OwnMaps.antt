@@ -6,8 +6,7 @@ use mathlib.Core.List.{List}
 use Rattle.rules.specs.Records.{member}
 use Rattle.rules.specs.Request.{requested}
 use Rattle.rules.specs.Clash.{clash_at}
-use Rattle.maps.specs.declared.Low.{Low}
-use Rattle.maps.specs.declared.Low.TheVariants.{At, Nothing}
+use Rattle.std.specs.Prelude.{Option, Some, None}
 use Rattle.maps.specs.Maps.{in_map, MapOf, clash_in, Empty, Grown, IsLowest}
 
 -- a map that was empty and has grown by a list is the list
@@ -19,6 +18,6 @@ unfolding clash_at
 own-clash written read m m' q = rw (m.each q, m'.each q)
 
 -- tests that agree have the same lowest record
-pub lowest-same : (f g : ℕ → Bool) → ((q : ℕ) → f q ≡ g q) → (low : Low) → IsLowest f low → IsLowest g low
-lowest-same f g same (At r) h = (h.0, sym (same r) ∙ h.1, λ q lt. sym (same q) ∙ h.2 q lt)
-lowest-same f g same Nothing h = λ q lt. sym (same q) ∙ h q lt
+pub lowest-same : (f g : ℕ → Bool) → ((q : ℕ) → f q ≡ g q) → (low : Option ℕ) → IsLowest f low → IsLowest g low
+lowest-same f g same (Some r) h = (h.0, sym (same r) ∙ h.1, λ q lt. sym (same q) ∙ h.2 q lt)
+lowest-same f g same None h = λ q lt. sym (same q) ∙ h q lt

@@ -7,7 +7,7 @@ use mathlib.Core.Bool.{Bool, true, false}
 use mathlib.Core.List.{List, [], ◌∷◌}
 use native.Mathlib.Omega.{arith}
 use lib.Dec.{ltb}
-use lib.ListN.{length, get_or, set}
+use lib.ListN.{length, get_or}
 use lib.Seq.{ext_get_or}
 use lib.Bits.{bit_or}
 use borrow.Author.Tests.{ltb-true, ltb-false}
@@ -86,27 +86,12 @@ or_word a b (suc (suc zero)) lt = refl
 or_word a b (suc (suc (suc zero))) lt = refl
 or_word a b (suc (suc (suc (suc i)))) lt = absurd (omega arith)
 
-union-words : (a b : List ℕ) → Union a b (or_words a b)
+-- ---- two maps together, each word of which is that of both
+pub union-words : (a b next : List ℕ) → ((i : ℕ) → i < 4 → get_or next i 0 ≡ bit_or (get_or a i 0) (get_or b i 0)) → Union a b next
 unfolding in_map
-union-words a b = record {
-  each = λ q (lt : q < 256). ap (λ (w : ℕ). bit_set w (q % 64)) (or_word a b (q / 64) (omega arith)) ∙ or-bit (get_or a (q / 64) 0) (get_or b (q / 64) 0) (q % 64);
+union-words a b next each = record {
+  each = λ q (lt : q < 256). ap (λ (w : ℕ). bit_set w (q % 64)) (each (q / 64) (omega arith)) ∙ or-bit (get_or a (q / 64) 0) (get_or b (q / 64) 0) (q % 64);
 }
-
--- as the code stores them, one behind the other
-abbrev joined : List ℕ → List ℕ → List ℕ
-joined a b =
-    let first = set a 0 (bit_or (get_or a 0 0) (get_or b 0 0)) in
-    let second = set first 1 (bit_or (get_or first 1 0) (get_or b 1 0)) in
-    let third = set second 2 (bit_or (get_or second 2 0) (get_or b 2 0)) in
-    set third 3 (bit_or (get_or third 3 0) (get_or b 3 0))
-
-pub joined-union : (a b : List ℕ) → length a ≡ 4 → Union a b (joined a b)
-joined-union [] b four = absurd (omega arith)
-joined-union (w ∷ []) b four = absurd (omega arith)
-joined-union (w ∷ x ∷ []) b four = absurd (omega arith)
-joined-union (w ∷ x ∷ y ∷ []) b four = absurd (omega arith)
-joined-union (w ∷ x ∷ y ∷ z ∷ []) b four = union-words (w ∷ x ∷ y ∷ z ∷ []) b
-joined-union (w ∷ x ∷ y ∷ z ∷ v ∷ more) b four = absurd (omega arith)
 
 -- ---- a map is its records
 pub map-told : {a b : List ℕ} → Words a → Words b → ((q : ℕ) → q < 256 → in_map a q ≡ in_map b q) → a ≡ b

@@ -1,9 +1,9 @@
 -- Maps of records: a set of the records 0 to 255 as four words of 64 bits, one bit a record.
-use Rattle.std.specs.Prelude.{ℕ, ◌/◌, ◌%◌, ◌^◌, ◌≤◌, ◌<◌, ◌≡◌, Bool, true, false, ◌&&◌, ◌||◌, not, List, eqb, length, get_or}
+use Rattle.std.specs.Prelude.{ℕ, ◌/◌, ◌%◌, ◌^◌, ◌≤◌, ◌<◌, ◌≡◌, Bool, true, false, ◌&&◌, ◌||◌, not, List, eqb, length, get_or, Option, Some, None}
 use Rattle.rules.specs.Records.{member}
 use Rattle.rules.specs.Clash.{how_many}
-use Rattle.maps.specs.declared.Low.{Low}
-use Rattle.maps.specs.declared.Low.TheVariants.{At, Nothing}
+use Rattle.rules.specs.Scan.{Maps as LawMaps}
+use Rattle.maps.specs.declared.Maps.{Maps}
 
 -- bit k of a word is set
 abbrev pub bit_set : ℕ → ℕ → Bool
@@ -63,6 +63,10 @@ pub record BitsCounted (word n : ℕ) : Type 0 where
   pub is : n ≡ how_many (bit_set word) 64
 
 -- l is the lowest of the records 0 to 255 that passes the test, or says that none does
-abbrev pub IsLowest : (ℕ → Bool) → Low → Type 0
-IsLowest test (At r) = (r < 256) × (test r ≡ true) × ((q : ℕ) → q < r → test q ≡ false)
-IsLowest test Nothing = (q : ℕ) → q < 256 → test q ≡ false
+abbrev pub IsLowest : (ℕ → Bool) → Option ℕ → Type 0
+IsLowest test (Some r) = (r < 256) × (test r ≡ true) × ((q : ℕ) → q < r → test q ≡ false)
+IsLowest test None = (q : ℕ) → q < 256 → test q ≡ false
+
+-- the two maps as the law book's
+abbrev pub maps_of : Maps → LawMaps
+maps_of m = record { written = in_map m.written; read = in_map m.read }

@@ -2,7 +2,7 @@
 // Each contract says what the law book's function makes of the meter.
 #![tactic(auto)]
 
-ghost use Rattle.std.specs.Prelude.{◌≡◌, ◌≤◌, ◌<◌, ◌+◌, ◌-◌};
+ghost use Rattle.std.specs.Prelude.{◌≡◌, ◌≤◌, ◌<◌, ◌+◌};
 ghost use Rattle.rules.specs.Table.{spent, new_meter, granted, numbered};
 ghost use Rattle.meter.specs.View.{meter_view};
 
@@ -13,31 +13,22 @@ pub struct Meter {
     pub share: u8,
 }
 
-// The fuel that is left once the price is paid.
-fn less(fuel: u32, price: u32) -> u32
-    requires { price ≤ fuel }
-    ensures { result ≡ fuel - price }
-{
-    fuel - price
-}
-
 // Lowers the lent meter's fuel by the price, and leaves the rest as it was.
 // Document 01: "The tenant's meter is lent to the charge, which alone lowers fuel".
 fn charge(m: &mut Meter, price: u32)
     requires { price ≤ m.old.fuel }
     ensures { meter_view m.new ≡ spent (meter_view m.old) price }
 {
-    m.fuel = less(m.fuel, price);
+    m.fuel -= price;
 }
 
-// The meter once the price is paid: it lends a copy to the charge, and gives it back.
-pub fn charged(m: Meter, price: u32) -> Meter
+// The meter once the price is paid: it lends its own copy to the charge, and gives it back.
+pub fn charged(mut m: Meter, price: u32) -> Meter
     requires { price ≤ m.fuel }
     ensures { meter_view result ≡ spent (meter_view m) price }
 {
-    let mut n = m;
-    charge(&mut n, price);
-    n
+    charge(&mut m, price);
+    m
 }
 
 // The meter with more fuel. The caller keeps it within document 01's limit.
@@ -47,8 +38,7 @@ pub fn granted(m: Meter, amount: u32) -> Meter
 {
     Meter {
         fuel: m.fuel + amount,
-        serials: m.serials,
-        share: m.share,
+        ..m
     }
 }
 
@@ -58,9 +48,8 @@ pub fn numbered(m: Meter) -> Meter
     ensures { meter_view result ≡ numbered (meter_view m) }
 {
     Meter {
-        fuel: m.fuel,
         serials: m.serials + 1,
-        share: m.share,
+        ..m
     }
 }
 

@@ -1,4 +1,4 @@
--- A list from which one element is taken, the later ones moving up: place by place, as a loop over an array does it.
+-- A list from which one element is taken, those behind it copied one place up.
 use Prim.Native.Nat.{ℕ, zero, suc, ◌+◌, ◌-◌, ◌≤◌, ◌<◌}
 use mathlib.Core.Path.{◌≡◌, refl, sym, ap, subst, ◌∙◌}
 use mathlib.Core.Logic.{⊎_elim}
@@ -6,10 +6,61 @@ use mathlib.Core.List.{List, [], ◌∷◌, ◌++◌}
 use native.Mathlib.Nat.{not-suc-le-zero, le_of_suc-le-suc, le_refl}
 use native.Mathlib.Numerals.{add-one}
 use native.Mathlib.Omega.{arith}
-use lib.ListN.{length, get_or, take, drop, set, replicate, length-set}
-use lib.Seq.{get_or-take, drop-drop, drop-set-lt, take-suc-set, drop-cons, take-suc, take-set-le, get_or-drop, take-nil, get_or-set_same, get_or-set_other}
+use lib.ListN.{length, get_or, take, drop, set, replicate, length-drop, length-set}
+use lib.Seq.{paste, take-paste, drop-paste, length-paste, take-set-le, get_or-set_same, get_or-take, drop-cons, drop-drop, drop-set-lt}
+use Rattle.std.proofs.lemmas.List.{drop-take}
+use Rattle.std.proofs.lemmas.Grind.{common_steps}
 use Rattle.rules.proofs.Tests.{lt-or-ge}
 
+-- those from n + 1 on stay, and the place n is given z
+module _ {A : Type 0} (l : List A) (at n : ℕ) (z : A) (h : at ≤ n) (lt : n < length l) where
+  abbrev up : List A
+  up = paste l at (drop (at + 1) l) (n - at)
+
+  abbrev pub shifted : List A
+  shifted = set up n z
+
+  within : n - at ≤ length (drop (at + 1) l)
+  within = omega (arith, length-drop (at + 1) l)
+
+  whole : at + (n - at) ≡ n
+  whole = omega arith
+
+  past : at + 1 + (n - at) ≡ n + 1
+  past = omega arith
+
+  there : n < length up
+  there = omega (arith, length-paste l at (drop (at + 1) l) (n - at) (omega arith) within)
+
+  front : take n up ≡ take at l ++ take (n - at) (drop (at + 1) l)
+  front = subst (λ (k : ℕ). take k up ≡ take at l ++ take (n - at) (drop (at + 1) l)) whole (take-paste l at (drop (at + 1) l) (n - at) (omega arith) within)
+
+  back : drop n up ≡ drop n l
+  back = subst (λ (k : ℕ). drop k up ≡ drop k l) whole (drop-paste l at (drop (at + 1) l) (n - at) (omega arith) within)
+
+  pub shift-list : take n shifted ≡ take at (take (n + 1) l) ++ drop (at + 1) (take (n + 1) l)
+  shift-list =
+      let head : take at (take (n + 1) l) ≡ take at l = grind (arith, common_steps) in
+      let tail : drop (at + 1) (take (n + 1) l) ≡ take (n - at) (drop (at + 1) l) = rw (sym past) (drop-take (at + 1) (n - at) l) in
+      take-set-le n up n z (le_refl n) ∙ front ∙ sym (cc (head, tail))
+
+  pub shift-rest : (m : ℕ) → n < m → drop (n + 1) l ≡ replicate (m - (n + 1)) z → drop n shifted ≡ replicate (m - n) z
+  shift-rest m below e =
+      let b : n < length shifted = omega (arith, there, length-set up n z) in
+      let k : m - n ≡ suc (m - (n + 1)) = omega arith in
+      let tail : drop (suc n) shifted ≡ replicate (m - (n + 1)) z = rw (← (add-one n)) (drop-set-lt (n + 1) up n z (omega arith) ∙ sym (drop-drop 1 n up) ∙ ap (drop 1) back ∙ drop-drop 1 n l ∙ e) in
+      rw k (drop-cons shifted n z b ∙ cc (get_or-set_same up n z z there, tail))
+
+  -- what holds of the elements up to n holds of those that are left of them
+  pub shift-all : (P : A → Type 0) (d : A) → ((j : ℕ) → j < n + 1 → P (get_or l j d)) → (j : ℕ) → j < n → P (get_or shifted j d)
+  shift-all P d all j below =
+      let left : get_or shifted j d ≡ get_or (take at (take (n + 1) l) ++ drop (at + 1) (take (n + 1) l)) j d = sym (get_or-take n shifted j d below) ∙ ap (λ (t : List A). get_or t j d) shift-list in
+      ⊎_elim
+      (λ (ahead : j < at). let same : get_or (take at (take (n + 1) l) ++ drop (at + 1) (take (n + 1) l)) j d ≡ get_or l j d = grind (arith, common_steps) in subst P (sym (left ∙ same)) (all j (omega arith)))
+      (λ (behind : at ≤ j). let same : get_or (take at (take (n + 1) l) ++ drop (at + 1) (take (n + 1) l)) j d ≡ get_or l (j + 1) d = grind (arith, common_steps) in subst P (sym (left ∙ same)) (all (j + 1) (omega arith)))
+      (lt-or-ge j at)
+
+-- ---- place by place, as a loop over an array does it
 module _ {A : Type 0} where
   -- the list without its element at n
   abbrev without : ℕ → List A → List A
@@ -17,37 +68,16 @@ module _ {A : Type 0} where
   without zero (x ∷ xs) = xs
   without (suc n) (x ∷ xs) = x ∷ without n xs
 
-  without-split : (n : ℕ) (l : List A) → without n l ≡ take n l ++ drop (n + 1) l
-  without-split n l = go n l ∙ ap (λ (k : ℕ). take n l ++ drop k l) (sym (add-one n))
-    where
-      go : (n : ℕ) (l : List A) → without n l ≡ take n l ++ drop (suc n) l
-      go zero [] = refl
-      go (suc n) [] = refl
-      go zero (x ∷ xs) = refl
-      go (suc n) (x ∷ xs) = ap (λ (t : List A). x ∷ t) (go n xs)
-
   take-without : (n : ℕ) (l : List A) → take n (without n l) ≡ take n l
   take-without zero l = refl
   take-without (suc n) [] = refl
   take-without (suc n) (x ∷ xs) = ap (λ (t : List A). x ∷ t) (take-without n xs)
-
-  without-take : (n m : ℕ) (l : List A) → n ≤ m → take m (without n l) ≡ without n (take (suc m) l)
-  without-take n m [] h = take-nil m
-  without-take zero m (x ∷ xs) h = refl
-  without-take (suc n) zero (x ∷ xs) h = absurd (not-suc-le-zero h)
-  without-take (suc n) (suc m) (x ∷ xs) h = ap (λ (t : List A). x ∷ t) (without-take n m xs (le_of_suc-le-suc h))
 
   get_or-without : (n m : ℕ) (l : List A) (d : A) → n ≤ m → get_or (without n l) m d ≡ get_or l (suc m) d
   get_or-without n m [] d h = refl
   get_or-without zero m (x ∷ xs) d h = refl
   get_or-without (suc n) zero (x ∷ xs) d h = absurd (not-suc-le-zero h)
   get_or-without (suc n) (suc m) (x ∷ xs) d h = get_or-without n m xs d (le_of_suc-le-suc h)
-
-  before-without : (n m : ℕ) (l : List A) (d : A) → m < n → get_or (without n l) m d ≡ get_or l m d
-  before-without n m [] d h = refl
-  before-without zero m (x ∷ xs) d h = absurd (not-suc-le-zero h)
-  before-without (suc n) zero (x ∷ xs) d h = refl
-  before-without (suc n) (suc m) (x ∷ xs) d h = before-without n m xs d (le_of_suc-le-suc h)
 
   length_without : (n : ℕ) (l : List A) → n < length l → suc (length (without n l)) ≡ length l
   length_without n [] h = absurd (not-suc-le-zero h)
@@ -64,27 +94,7 @@ module _ {A : Type 0} where
   shift_none n l = record { same = refl; moved = sym (take-without n l); kept = refl }
 
   module _ {n i : ℕ} {l next : List A} (s : Shifted n i l next) (h : n ≤ i) where
-    -- one place more
-    pub shift-more : i + 1 < length l → (d : A) → Shifted n (i + 1) l (set next i (get_or next (i + 1) d))
-    shift-more lt d =
-        let v = get_or next (i + 1) d in
-        let same_next : get_or next (i + 1) d ≡ get_or l (i + 1) d = sym (get_or-drop i next 1 d) ∙ ap (λ (t : List A). get_or t 1 d) s.kept ∙ get_or-drop i l 1 d in
-        let up : get_or (without n l) i d ≡ v = get_or-without n i l d h ∙ ap (λ (k : ℕ). get_or l k d) (sym (add-one i)) ∙ sym same_next in
-        let b : i < length next = omega (arith, s.same) in
-        let k : i < length (without n l) = omega (arith, length_without n l (omega arith)) in
-        let u : i < i + 1 = omega arith in
-        let first : take (suc i) (set next i v) ≡ take (suc i) (without n l) = take-suc-set next i v b ∙ cc (s.moved, up) ∙ sym (take-suc (without n l) i d k) in
-        record {
-          same = simp length-set s.same;
-          moved = ap (λ (m : ℕ). take m (set next i v)) (add-one i) ∙ first ∙ ap (λ (m : ℕ). take m (without n l)) (sym (add-one i));
-          kept = drop-set-lt (i + 1) next i v u ∙ sym (drop-drop 1 i next) ∙ ap (λ (t : List A). drop 1 t) s.kept ∙ drop-drop 1 i l;
-        }
-
     -- the last place is then given z
-    pub shift-list : (z : A) → take i (set next i z) ≡ take n (take (i + 1) l) ++ drop (n + 1) (take (i + 1) l)
-    shift-list z =
-        take-set-le i next i z (le_refl i) ∙ s.moved ∙ without-take n i l h ∙ ap (λ (k : ℕ). without n (take k l)) (sym (add-one i)) ∙ without-split n (take (i + 1) l)
-
     pub shift_rest : i < length l → (z : A) (m : ℕ) → i < m → drop (i + 1) l ≡ replicate (m - (i + 1)) z → drop i (set next i z) ≡ replicate (m - i) z
     shift_rest lt z m below e =
         let b : i < length (set next i z) = simp length-set (omega (arith, s.same)) in
@@ -93,13 +103,3 @@ module _ {A : Type 0} where
         let k : m - i ≡ suc (m - (i + 1)) = omega arith in
         let tail : drop (suc i) (set next i z) ≡ replicate (m - (i + 1)) z = rw (← (add-one i)) (drop-set-lt (i + 1) next i z u ∙ sym (drop-drop 1 i next) ∙ ap (λ (t : List A). drop 1 t) s.kept ∙ drop-drop 1 i l ∙ e) in
         rw k (drop-cons (set next i z) i z b ∙ cc (get_or-set_same next i z z c, tail))
-
-    -- what holds of the elements up to i holds of those that are left of them
-    pub shift-all : (P : A → Type 0) (d z : A) → ((j : ℕ) → j < i + 1 → P (get_or l j d)) → (j : ℕ) → j < i → P (get_or (set next i z) j d)
-    shift-all P d z all j lt =
-        let put : get_or (set next i z) j d ≡ get_or next j d = get_or-set_other next i j z d (λ (e : j ≡ i). omega arith) in
-        let left : get_or next j d ≡ get_or (without n l) j d = sym (get_or-take i next j d lt) ∙ ap (λ (t : List A). get_or t j d) s.moved ∙ get_or-take i (without n l) j d lt in
-        ⊎_elim
-        (λ (ahead : j < n). subst P (sym (put ∙ left ∙ before-without n j l d ahead)) (all j (omega arith)))
-        (λ (behind : n ≤ j). subst P (sym (put ∙ left ∙ get_or-without n j l d behind)) (all (suc j) (omega arith)))
-        (lt-or-ge j n)

@@ -9,11 +9,10 @@ use borrow.Author.Tests.{eqb-true, eqb-false}
 use native.Mathlib.Numerals.{add-one}
 use native.Mathlib.Omega.{arith}
 use lib.Dec.{eqb}
-use lib.ListN.{length, get_or, take, drop, set, replicate, length-map, length-take, get_or-map, drop_of_length-le}
+use lib.ListN.{length, get_or, take, drop, set, replicate, length-map, length-take, get_or-map}
 use lib.Seq.{get_or-take, take-set-lt, take-suc-set, drop-set-lt, get_or-set_same, get_or-set_other}
-use Rattle.rules.specs.Lists.{count_if, before}
+use Rattle.rules.specs.Lists.{before}
 use Rattle.rules.specs.Request.{Request, nobody, is_named}
-use Rattle.rules.specs.Table.{places_of}
 use Rattle.rules.specs.Refusals.{stands_at}
 use Rattle.rules.specs.Calls.{without_entry}
 use Rattle.rules.proofs.Arrays.{rest-next}
@@ -22,7 +21,8 @@ use Rattle.rules.proofs.Mapped.{map-take, map-drop, map-set}
 use Rattle.entry.specs.declared.Entry.{Entry}
 use Rattle.entry.specs.Entry.{request, no_entry, blank, Tidy}
 use Rattle.queue.specs.Queue.{Queue, queued, requests, Neat, Holds}
-use Rattle.queue.proofs.Shift.{Shifted, shift-list, shift_rest, shift-all}
+use lib.Seq.{paste}
+use Rattle.queue.proofs.Shift.{shifted, shift-list, shift-rest, shift-all}
 
 -- a neat queue of 64 slots
 pub record Slots (q : Queue) : Type 0 where
@@ -35,17 +35,6 @@ module _ {q : Queue} (s : Slots q) where
 
   pub request-at : {i : ℕ} → i < q.count → get_or (requests q) i nobody ≡ request (get_or q.entries i blank)
   request-at {i} lt = get_or-map request (queued q) i blank ∙ ap request (get_or-take q.count q.entries i blank lt)
-
-  -- the list from i on, one entry on
-  pub requests-step : {i : ℕ} → i < q.count → drop i (requests q) ≡ request (get_or q.entries i blank) ∷ drop (i + 1) (requests q)
-  requests-step {i} lt =
-      let there : i < length (requests q) = omega (arith, requests-length) in
-      list-step (requests q) i nobody there ∙ ap (λ (e : Request). e ∷ drop (i + 1) (requests q)) (request-at lt)
-
-  pub requests-end : {i : ℕ} → q.count ≤ i → drop i (requests q) ≡ []
-  requests-end {i} le =
-      let past : length (requests q) ≤ i = omega (arith, requests-length) in
-      drop_of_length-le (requests q) past
 
 -- ---- changes
 pub none-holds : (z : Entry) → z ≡ no_entry → Holds [] (record { count = 0; entries = replicate 64 z })
@@ -94,33 +83,28 @@ module _ {q : Queue} (s : Slots q) where
         };
       }
 
-  -- the queue once the entries past `at` have moved up to the last place i, which is then given the empty entry
-  pub removed-holds : {at i : ℕ} {next : List Entry} → Shifted at i q.entries next → at ≤ i → i + 1 ≡ q.count → Holds (without_entry at (requests q)) (record { count = i; entries = set next i no_entry })
-  removed-holds {at} {i} {next} m h e =
-      let lt : i < length q.entries = omega (arith, s.full, s.neat.within) in
-      let below : i < 64 = omega (arith, s.neat.within) in
-      let rest : drop (i + 1) q.entries ≡ replicate (64 - (i + 1)) no_entry = rw e s.neat.rest in
-      let all : (j : ℕ) → j < i + 1 → Tidy (get_or q.entries j blank) = λ j b. s.neat.tidy j (rw e at b) in
-      let cut : take i (set next i no_entry) ≡ take at (queued q) ++ drop (at + 1) (queued q) = rw (← e) (shift-list m h no_entry) in
-      record {
+  -- the queue once the entries past `at` have moved up to the last place n, which is then given the empty entry
+  pub removed-holds : {at n : ℕ} {next : List Entry} → at ≤ n → n + 1 ≡ q.count → next ≡ paste q.entries at (drop (at + 1) q.entries) (q.count - (at + 1)) → Holds (without_entry at (requests q)) (record { count = n; entries = set next n no_entry })
+  removed-holds {at} {n} h e moved =
+      let lt : n < length q.entries = omega (arith, s.full, s.neat.within) in
+      let below : n < 64 = omega (arith, s.neat.within) in
+      let gap : q.count - (at + 1) ≡ n - at = omega arith in
+      let rest : drop (n + 1) q.entries ≡ replicate (64 - (n + 1)) no_entry = rw e s.neat.rest in
+      let all : (j : ℕ) → j < n + 1 → Tidy (get_or q.entries j blank) = λ j b. s.neat.tidy j (rw e at b) in
+      let cut : take n (shifted q.entries at n no_entry h lt) ≡ take at (queued q) ++ drop (at + 1) (queued q) = rw (← e) (shift-list q.entries at n no_entry h lt) in
+      rw (moved, gap)
+      (record {
         list = ap (map request) cut ∙ map-append request (take at (queued q)) (drop (at + 1) (queued q)) ∙ cc (map-take request at (queued q), map-drop request (at + 1) (queued q));
-        neat = record { within = omega arith; tidy = shift-all m h Tidy blank no_entry all; rest = shift_rest m h lt no_entry 64 below rest };
-      }
+        neat = record { within = omega arith; tidy = shift-all q.entries at n no_entry h lt Tidy blank all; rest = shift-rest q.entries at n no_entry h lt 64 below rest };
+      })
 
--- ---- what the loops over the queue look for, one entry on
+-- ---- where a name stands, one entry on
 module _ {q : Queue} (s : Slots q) {i : ℕ} where
+  pub requests-step : i < q.count → drop i (requests q) ≡ request (get_or q.entries i blank) ∷ drop (i + 1) (requests q)
+  requests-step lt =
+      let there : i < length (requests q) = omega (arith, requests-length s) in
+      list-step (requests q) i nobody there ∙ ap (λ (e : Request). e ∷ drop (i + 1) (requests q)) (request-at s lt)
+
   pub stands-step : i < q.count → (who serial : ℕ) → stands_at who serial (drop i (requests q)) ≡ (if is_named who serial (request (get_or q.entries i blank)) then 0 else suc (stands_at who serial (drop (i + 1) (requests q))))
   unfolding before
-  stands-step lt who serial = ap (λ (l : List Request). stands_at who serial l) (requests-step s lt)
-
-  pub stands-end : q.count ≤ i → (who serial : ℕ) → stands_at who serial (drop i (requests q)) ≡ 0
-  unfolding before
-  stands-end le who serial = ap (λ (l : List Request). stands_at who serial l) (requests-end s le)
-
-  pub places-step : i < q.count → (who : ℕ) → places_of (drop i (requests q)) who ≡ (if eqb (get_or q.entries i blank).tenant who then 1 else 0) + places_of (drop (i + 1) (requests q)) who
-  unfolding count_if
-  places-step lt who = ap (λ (l : List Request). places_of l who) (requests-step s lt)
-
-  pub places-end : q.count ≤ i → (who : ℕ) → places_of (drop i (requests q)) who ≡ 0
-  unfolding count_if
-  places-end le who = ap (λ (l : List Request). places_of l who) (requests-end s le)
+  stands-step lt who serial = ap (λ (l : List Request). stands_at who serial l) (requests-step lt)

@@ -16,7 +16,7 @@ use Rattle.replay.proofs.Lines.{step_lines}
 
 run-lines : {file : List ℕ} {s : State} {at : ℕ} {first : Bool} {number : ℕ} {text : List ℕ} → Run file s at first number text → text ≡ lines_left file (view s) at first number
 run-lines (Run.stops h end) = sym (step_lines h ∙ rw end (append-nil _))
-run-lines (Run.goes {s} {at} {first} {number} {r} {text} h on run) =
+run-lines (Run.goes {s} {at} {first} {number} {r} {next} {text} h on run) =
     ap (λ (t : List ℕ). text_of r.line ++ t) (run-lines run) ∙ sym (step_lines h ∙ rw on refl)
 
 pub stepping : StepsList

@@ -1,8 +1,8 @@
 -- How a piece grows by a line, and a place goes on.
-use Rattle.std.specs.Prelude.{if◌then◌else◌}
+use Rattle.std.specs.Prelude.{Option, Some, None}
 use Prim.Native.Nat.{ℕ, suc, ◌+◌, ◌-◌, ◌≤◌, ◌<◌}
 use mathlib.Core.Path.{◌≡◌, refl, sym, ap, ◌∙◌}
-use mathlib.Core.Bool.{Bool, true, false}
+use mathlib.Core.Bool.{true, false}
 use mathlib.Core.List.{List, ◌++◌, append-nil, append_assoc}
 use native.Mathlib.Omega.{arith}
 use borrow.Author.Tests.{ltb-false}
@@ -18,7 +18,7 @@ use Rattle.replay.specs.declared.Stepped.{Stepped}
 use Rattle.replay.specs.declared.piece.Place.{Place}
 use Rattle.replay.specs.Replay.{file_line, unopened, listing_of, Steps}
 use Rattle.replay.specs.Pieces.{rest, Within, Ready, Room, Piece, Onward}
-use Rattle.replay.proofs.Lines.{Later, later, step_lines}
+use Rattle.replay.proofs.Lines.{Later, later-next, step_lines}
 
 -- a line that holds a text has 64 bytes
 written-room : {text : List ℕ} {l : Line} → Written text l → length l.bytes ≡ 64
@@ -43,22 +43,19 @@ module _ (out : List ℕ) (room : Room out) (at : ℕ) (fits : at + 64 ≤ 65_53
 -- ---- one step
 -- the place after it
 abbrev pub stood : Place → Stepped → Place
-stood p r = record { state = r.state; at = r.next; first = false; number = p.number + 1; more = r.more; len = p.len + r.line.len }
+stood p r = record { state = r.state; at = r.next; first = false; number = p.number + 1; len = p.len + r.line.len }
 
-module _ (file : List ℕ) (p : Place) (ready : Ready file p) (more : p.more ≡ true) where
-  pub few : p.number ≤ 65_537
-  few = let w = ready.within more in omega (arith, w.short, w.inside, w.numbered)
-
-  module _ (r : Stepped) (h : Steps p.state file p.at p.first p.number r) where
-    later-place : r.more ≡ true → Later file p.at r.next
-    later-place on = rw h.next (later file p.at p.first (sym h.more ∙ on))
+module _ (file : List ℕ) (p : Place) (ready : Ready file p) {at : ℕ} (here : p.at ≡ Some at) where
+  module _ (r : Stepped) (h : Steps p.state file at p.first p.number r) where
+    later-place : {n : ℕ} → r.next ≡ Some n → Later file at n
+    later-place on = later-next file at p.first (sym h.next ∙ on)
 
     pub step-onward : Onward p (stood p r)
-    step-onward on = (later-place on).onward
+    step-onward to on = (at, here, (later-place on).onward)
 
-    within-next : r.more ≡ true → Within file r.next (p.number + 1)
-    within-next on =
-        let w = ready.within more in
+    within-next : (n : ℕ) → r.next ≡ Some n → Within file n (p.number + 1)
+    within-next n on =
+        let w = ready.within at here in
         let l = later-place on in
         record { short = w.short; inside = l.within; numbered = omega (arith, w.numbered, l.onward) }
 
@@ -69,25 +66,19 @@ module _ (file : List ℕ) (p : Place) (ready : Ready file p) (more : p.more ≡
           ready = record { sound = h.sound; within = within-next };
           room = grown-room out room p.len fits h.line;
           fits = omega (arith, h.line.within);
-          is = rw more (ap (λ (t : List ℕ). t ++ rest file (stood p r)) text ∙ append_assoc (take p.len out) (text_of r.line) (rest file (stood p r)) ∙ ap (λ (t : List ℕ). take p.len out ++ t) (sym (step_lines h)));
+          is = rw here (ap (λ (t : List ℕ). t ++ rest file (stood p r)) text ∙ append_assoc (take p.len out) (text_of r.line) (rest file (stood p r)) ∙ ap (λ (t : List ℕ). take p.len out ++ t) (sym (step_lines h)));
         }
 
 -- ---- the lines that fill a piece
-pub record Filling (file text : List ℕ) (from : ℕ) (out : List ℕ) (q : Place) : Type 0 where
+pub record Filling (file text : List ℕ) (from : Option ℕ) (out : List ℕ) (q : Place) : Type 0 where
   pub piece : Piece file text out q
-  pub onward : q.more ≡ true → from ≤ q.at
-  pub moved : q.more ≡ true → 0 < q.len → from < q.at
+  pub onward : (b : ℕ) → q.at ≡ Some b → (a : ℕ) × (from ≡ Some a) × (a ≤ b)
+  pub moved : (b : ℕ) → q.at ≡ Some b → 0 < q.len → (a : ℕ) × (from ≡ Some a) × (a < b)
 
 -- what is left to read, and one; nothing at the end
-abbrev pub to_read : List ℕ → Place → ℕ
-to_read file q = if q.more then suc (length file - q.at) else 0
-
-pub reads-less : (file : List ℕ) (p r : Place) → p.more ≡ true → Ready file r → Onward p r → to_read file r < to_read file p
-reads-less file p r more ready on = rw more (go r.more refl)
-  where
-    go : (b : Bool) → r.more ≡ b → (if b then suc (length file - r.at) else 0) < suc (length file - p.at)
-    go true e = let w = ready.within e in omega (arith, w.inside, on e)
-    go false e = omega arith
+abbrev pub to_read : List ℕ → Option ℕ → ℕ
+to_read file (Some at) = suc (length file - at)
+to_read file None = 0
 
 -- ---- the first piece
 module _ (file out : List ℕ) (room : Room out) {h : Line} (w : Written header_text h) where
@@ -100,19 +91,19 @@ module _ (file out : List ℕ) (room : Room out) {h : Line} (w : Written header_
       ap (λ (k : ℕ). take k (paste out 0 h.bytes 64)) same ∙ grown-text out room 0 (omega arith) w
 
   module _ (s : State) (sound : Sound s) (fresh : view s ≡ unopened) where
-    pub headed : too_long file ≡ false → Piece file (listing_of file) (paste out 0 h.bytes 64) (record { state = s; at = 0; first = true; number = 1; more = true; len = h.len })
+    pub headed : too_long file ≡ false → Piece file (listing_of file) (paste out 0 h.bytes 64) (record { state = s; at = Some 0; first = true; number = 1; len = h.len })
     unfolding listing_of
     headed short = record {
-      ready = record { sound = sound; within = λ on. record { short = ltb-false 65_536 (length file) short; inside = omega arith; numbered = omega arith } };
+      ready = record { sound = sound; within = λ at. λ on. let same : 0 ≡ at = cc in record { short = ltb-false 65_536 (length file) short; inside = omega arith; numbered = omega arith } };
       room = headed-room;
       fits = omega (arith, w.within);
       is = rw (short, headed-text, fresh) refl;
     }
 
-    pub refused : too_long file ≡ true → {l : Line} → Written (file_line 1 24) l → Piece file (listing_of file) (paste (paste out 0 h.bytes 64) h.len l.bytes 64) (record { state = s; at = 0; first = true; number = 1; more = false; len = h.len + l.len })
+    pub refused : too_long file ≡ true → {l : Line} → Written (file_line 1 24) l → Piece file (listing_of file) (paste (paste out 0 h.bytes 64) h.len l.bytes 64) (record { state = s; at = None; first = true; number = 1; len = h.len + l.len })
     unfolding listing_of
     refused long {l} v = record {
-      ready = record { sound = sound; within = λ (on : false ≡ true). absurd (let o : ◌≡◌ {A = ℕ} 0 1 = cc in omega arith) };
+      ready = record { sound = sound; within = λ at. λ on. absurd (let o : ◌≡◌ {A = ℕ} 0 1 = cc in omega arith) };
       room = grown-room (paste out 0 h.bytes 64) headed-room h.len (omega (arith, w.within)) v;
       fits = omega (arith, w.within, v.within);
       is = rw long (append-nil _ ∙ grown-text (paste out 0 h.bytes 64) headed-room h.len (omega (arith, w.within)) v ∙ ap (λ (t : List ℕ). t ++ file_line 1 24) headed-text);

@@ -1,5 +1,5 @@
 -- Stepping through a file gives the listing of the whole file, and so do its pieces.
-use Rattle.std.specs.Prelude.{ℕ, ◌+◌, ◌≡◌, Bool, true, false, List, [], ◌++◌, take}
+use Rattle.std.specs.Prelude.{ℕ, ◌+◌, ◌≡◌, Bool, true, false, List, [], ◌++◌, take, Some, None}
 use Rattle.manager.specs.declared.State.{State}
 use Rattle.manager.specs.State.{view}
 use Rattle.events.specs.Events.{too_long}
@@ -17,13 +17,13 @@ pub data Run (file : List ℕ) : State → ℕ → Bool → ℕ → List ℕ →
   stops :
       {s : State} {at : ℕ} {first : Bool} {number : ℕ} {r : Stepped} →
       Steps s file at first number r →
-      r.more ≡ false →
+      r.next ≡ None →
       Run file s at first number (text_of r.line)
   goes :
-      {s : State} {at : ℕ} {first : Bool} {number : ℕ} {r : Stepped} {text : List ℕ} →
+      {s : State} {at : ℕ} {first : Bool} {number : ℕ} {r : Stepped} {next : ℕ} {text : List ℕ} →
       Steps s file at first number r →
-      r.more ≡ true →
-      Run file r.state r.next false (number + 1) text →
+      r.next ≡ Some next →
+      Run file r.state next false (number + 1) text →
       Run file s at first number (text_of r.line ++ text)
 
 -- from the state before the first record, behind the header, the lines are the listing
@@ -40,7 +40,7 @@ StepsList =
 pub data Pieces (file : List ℕ) : Place → List ℕ → Type 0 where
   none :
       {p : Place} →
-      p.more ≡ false →
+      p.at ≡ None →
       Pieces file p []
   also :
       {p r : Place} {out text : List ℕ} →

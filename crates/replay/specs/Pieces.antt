@@ -1,12 +1,12 @@
 -- A listing in pieces.
-use Rattle.std.specs.Prelude.{ℕ, ◌+◌, ◌≤◌, ◌<◌, ◌≡◌, true, List, [], ◌++◌, length, take, if◌then◌else◌}
+use Rattle.std.specs.Prelude.{ℕ, ◌+◌, ◌≤◌, ◌<◌, ◌≡◌, List, ◌++◌, length, take, Some}
 use Rattle.manager.specs.State.{view, Sound}
-use Rattle.replay.specs.Replay.{lines_left}
+use Rattle.replay.specs.Replay.{lines_at}
 use Rattle.replay.specs.declared.piece.Place.{Place}
 
 -- what is left of the listing
 abbrev pub rest : List ℕ → Place → List ℕ
-rest file p = if p.more then lines_left file (view p.state) p.at p.first p.number else []
+rest file p = lines_at file (view p.state) p.at p.first p.number
 
 -- a place that a listing can go on from: the file is not too long, and each record before had a byte at least
 pub record Within (file : List ℕ) (at number : ℕ) : Type 0 where
@@ -16,7 +16,7 @@ pub record Within (file : List ℕ) (at number : ℕ) : Type 0 where
 
 pub record Ready (file : List ℕ) (p : Place) : Type 0 where
   pub sound : Sound p.state
-  pub within : p.more ≡ true → Within file p.at p.number
+  pub within : (at : ℕ) → p.at ≡ Some at → Within file at p.number
 
 -- the array that a program lends for the pieces
 abbrev pub Room : List ℕ → Type 0
@@ -31,4 +31,4 @@ pub record Piece (file text out : List ℕ) (r : Place) : Type 0 where
 
 -- a listing that is not at its end has gone on
 abbrev pub Onward : Place → Place → Type 0
-Onward p r = r.more ≡ true → p.at < r.at
+Onward p r = (to : ℕ) → r.at ≡ Some to → (from : ℕ) × (p.at ≡ Some from) × (from < to)

@@ -1,5 +1,5 @@
 -- One step of an event file, and the listing of the whole file.
-use Rattle.std.specs.Prelude.{ℕ, zero, suc, ◌+◌, ◌-◌, ◌≡◌, Bool, true, false, List, [], ◌++◌, length, replicate, if◌then◌else◌}
+use Rattle.std.specs.Prelude.{ℕ, zero, suc, ◌+◌, ◌-◌, ◌≡◌, Bool, true, false, List, [], ◌++◌, length, replicate, if◌then◌else◌, Option, Some, None}
 use Rattle.rules.specs.declared.Answer.TheVariants.{Refused}
 use Rattle.rules.specs.declared.Event.{Event}
 use Rattle.rules.specs.Table.{Table, meter_of, is_tenant, fresh}
@@ -10,15 +10,14 @@ use Rattle.manager.specs.State.{view, Sound}
 use Rattle.events.specs.declared.Next.{Next}
 use Rattle.events.specs.Events.{call_at, too_long, record_at}
 use Rattle.listing.specs.declared.Name.{Name}
-use Rattle.listing.specs.declared.Left.{Left}
 use Rattle.listing.specs.Listing.{line_of, header_text}
 use Rattle.listing.specs.Written.{Written}
 use Rattle.replay.specs.declared.Stepped.{Stepped}
 
 -- ---- one line
 -- "the named tenant's fuel afterwards, or - with no valid tenant named"
-abbrev pub left_after : Table → ℕ → Left
-left_after t who = if is_tenant who then Left.Fuel (meter_of t who).fuel else Left.Nobody
+abbrev pub left_after : Table → ℕ → Option ℕ
+left_after t who = if is_tenant who then Some (meter_of t who).fuel else None
 
 -- "record number; call; answer; units burnt; the named tenant's fuel afterwards": all of it by the law book's step
 unfoldable pub call_line : ℕ → Table → Call → List ℕ
@@ -29,7 +28,7 @@ call_line number t call =
 
 -- "A file refusal prints the call file, burns 0, and -"
 abbrev pub file_line : ℕ → ℕ → List ℕ
-file_line number k = line_of number Name.File (Refused k) 0 Left.Nobody
+file_line number k = line_of number Name.File (Refused k) 0 None
 
 -- ---- one step, by what stands at the position
 -- after a call the reading goes on; after a refusal "Reading stops there"
@@ -43,6 +42,12 @@ abbrev pub place_by : ℕ → Next → ℕ
 place_by at (Next.Call e n) = n
 place_by at (Next.Refused k) = at
 place_by at Next.End = at
+
+-- where the next record begins, where the reading goes on
+abbrev pub next_by : Next → Option ℕ
+next_by (Next.Call e n) = Some n
+next_by (Next.Refused k) = None
+next_by Next.End = None
 
 -- the table then: a call's, by the law book
 abbrev pub table_by : Table → List ℕ → ℕ → Next → Table
@@ -61,8 +66,7 @@ pub record Steps (s : State) (file : List ℕ) (at : ℕ) (first : Bool) (number
   pub sound : Sound r.state
   pub table : view r.state ≡ table_by (view s) file at (record_at file at first)
   pub line : Written (line_by number (view s) file at (record_at file at first)) r.line
-  pub next : r.next ≡ place_by at (record_at file at first)
-  pub more : r.more ≡ goes_on (record_at file at first)
+  pub next : r.next ≡ next_by (record_at file at first)
   -- without a call the state is the very same
   pub kept : goes_on (record_at file at first) ≡ false → r.state ≡ s
 
@@ -84,6 +88,11 @@ lines_from (suc k) file t at first number =
 -- all that are left; a record has at least one byte
 abbrev pub lines_left : List ℕ → Table → ℕ → Bool → ℕ → List ℕ
 lines_left file t at first number = lines_from (suc (length file - at)) file t at first number
+
+-- the same, from a position where there is one
+abbrev pub lines_at : List ℕ → Table → Option ℕ → Bool → ℕ → List ℕ
+lines_at file t (Some at) first number = lines_left file t at first number
+lines_at file t None first number = []
 
 -- the table before the first record, which no call meets but Open
 abbrev pub unopened : Table

@@ -7,7 +7,7 @@ use std::io;
 use std::io::Read;
 
 // Reads until the buffer is full or the input ends, and answers how many bytes it put at the buffer's front. With no room it
-// calls nothing.
+// calls nothing. (`read_exact` does not tell how many there were before the end, and `read_to_end` needs a heap.)
 pub fn read_full<R: Read>(from: &mut R, file: &mut [u8]) -> io::Result<usize>
     ensures bound { ReadsAtMost result file.new }
     ensures read { IfOk result (λ n. Consumes (R.remaining from.old) (R.remaining from.new) (take n file.new)) }

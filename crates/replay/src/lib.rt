@@ -1,15 +1,14 @@
 // One step of an event file: the call that stands at a position is made, and its line written.
 #![tactic(auto)]
 
-ghost use Rattle.std.specs.Prelude.{◌≡◌, []};
+ghost use Rattle.std.specs.Prelude.{◌≡◌};
 ghost use Rattle.manager.specs.State.{view, Sound};
 ghost use Rattle.manager.specs.Runs.{DidCall};
 ghost use Rattle.events.specs.Events.{call_at};
-ghost use Rattle.listing.specs.Written.{Written};
 ghost use Rattle.replay.specs.Replay.{left_after, unopened, ReadAt, Steps};
 
 use events::Next;
-use listing::{Left, Line, Name};
+use listing::{Line, Name};
 use manager::State;
 use rules::{Answer, Event, Kind};
 
@@ -18,33 +17,33 @@ pub mod output;
 mod piece;
 pub mod print;
 
-// The state after a step, the line of its record, where the next record begins, and whether the reading goes on.
+// What a step comes to: the state after it, the line of its record, and where the next record begins; None where the reading
+// stops.
 #[derive(Clone, Copy)]
 struct Stepped {
-    pub state: State,
-    pub line: Line,
-    pub next: usize,
-    pub more: bool,
+    state: State,
+    line: Line,
+    next: Option<usize>,
 }
 
 // The fuel that a tenant has in a state.
-fn left_in(s: State, who: u8) -> Left
+fn left_in(s: State, who: u8) -> Option<u32>
     ensures { result ≡ left_after (view s) who }
 {
     if manager::tenants::is_tenant(who) {
-        return Left::Fuel(manager::tenants::fuel_of(s, who));
+        Some(manager::tenants::fuel_of(s, who))
+    } else {
+        None
     }
-    Left::Nobody
 }
 
-// The call of the event at a position.
+// The call of the event at a position. A match: each call takes other arguments.
 fn called(s: State, bytes: &[u8], at: usize, e: Event) -> State
     requires sound { Sound s }
     requires read_at { ReadAt bytes.now at e }
     ensures { DidCall s (call_at bytes.now at e) result }
 {
-    let kind = e.kind;
-    match kind {
+    match e.kind {
         Kind::Open => manager::open::open(events::shares(bytes, at)),
         Kind::Grant => manager::grant::grant(s, e.tenant, e.amount),
         Kind::Begin => {
@@ -62,56 +61,33 @@ fn called(s: State, bytes: &[u8], at: usize, e: Event) -> State
     }
 }
 
-// No line.
-fn blank() -> Line
-    ensures { Written [] result }
-{
-    Line {
-        len: 0,
-        bytes: [0u8; 64],
-    }
-}
-
 // The step of a file: whatever the bytes and the position are, the call that stands there is made and its line written, or
-// the refusal's line written, or the end told.
+// the refusal's line written, or the end told by a line of no bytes.
 fn step(s: State, bytes: &[u8], at: usize, first: bool, number: u32) -> Stepped
     requires { Sound s }
     ensures { Steps s bytes.now at first number result }
 {
-    let found = events::record_at(bytes, at, first);
-    match found {
+    match events::record_at(bytes, at, first) {
         Next::Call(e, next) => {
             let after = called(s, bytes, at, e);
             let said = after.said;
-            let answer = said.answer;
             let left = left_in(after, e.tenant);
-            let kind = e.kind;
-            let line = listing::line_of(number, Name::Call(kind), answer, said.burnt, left);
             Stepped {
                 state: after,
-                line: line,
-                next: next,
-                more: true,
+                line: listing::line_of(number, Name::Call(e.kind), said.answer, said.burnt, left),
+                next: Some(next),
             }
         }
-        Next::Refused(k) => {
-            let line = listing::line_of(number, Name::File, Answer::Refused(k), 0, Left::Nobody);
-            Stepped {
-                state: s,
-                line: line,
-                next: at,
-                more: false,
-            }
-        }
-        Next::End => {
-            let line = blank();
-            Stepped {
-                state: s,
-                line: line,
-                next: at,
-                more: false,
-            }
-        }
+        Next::Refused(why) => Stepped {
+            state: s,
+            line: listing::line_of(number, Name::File, Answer::Refused(why), 0, None),
+            next: None,
+        },
+        Next::End => Stepped {
+            state: s,
+            line: Line::new(),
+            next: None,
+        },
     }
 }
 
@@ -120,6 +96,5 @@ fn start() -> State
     ensures sound { Sound result }
     ensures result_value { view result ≡ unopened }
 {
-    let none = [0u8; 16];
-    manager::open::open(&none)
+    manager::open::open(&[0; 16])
 }

@@ -4,112 +4,103 @@
 // serials, and how many entries are queued.
 #![tactic(auto)]
 
-ghost use Rattle.std.specs.Prelude.{◌≤◌, ◌<◌};
+ghost use Rattle.std.specs.Prelude.{◌≤◌};
 ghost use Rattle.manager.specs.State.{Sound};
 
 use manager::State;
 use std::io;
 use std::io::Read;
+use std::marker::Model;
 
-fn wide(x: u8) -> usize
-    ensures { result < 256 }
-{
-    x as usize
+// The state that the calls are made on. Tenant 1 has the one place that is measured, tenant 2 holds the others.
+// It goes by value from call to call: lent by `&mut`, a round copied it 5 or 6 times, and not 4.
+#[derive(Drop)]
+struct Bench {
+    state: State,
 }
 
-// Tenant 1 has the one place that is measured, tenant 2 holds the others.
-fn opened() -> State
-    ensures { Sound result }
-{
-    let empty = manager::open::open(&[1, 63, 0, 0, 0, 0, 0, 0, 0, 0, 0, 0, 0, 0, 0, 0]);
-    let one = manager::grant::grant(empty, 1, 1_000_000_000);
-    manager::grant::grant(one, 2, 1_000_000_000)
+// No contract says of it more than that it is sound. A ghost field would want a proof that the law book's `Each` and `InOrder` hold in
+// one way only.
+impl Model for Bench {
+    ghost Value = { Unit {0} };
+
+    ghost view = { λ bench. tt };
+
+    ghost invariant = { λ bench. Sound bench.state };
 }
 
-// Tenant 2 holds k entries, each of 2 reads and 2 writes of its own.
-fn held(s: State, k: u8) -> State
-    requires sound { Sound s }
-    requires k_bound { k ≤ 63 }
-    ensures { Sound result }
-{
-    let mut t = s;
-    let mut i: u8 = 0;
-    while i < k {
-        let first = 4 * i;
-        let reads = [first, first + 1];
-        let writes = [first + 2, first + 3];
-        let next = manager::begin::begin(t, 2, 0, &reads, &writes);
-        t = next;
-        i += 1;
+impl Bench {
+    fn open() -> Bench {
+        let empty = manager::open::open(&[1, 63, 0, 0, 0, 0, 0, 0, 0, 0, 0, 0, 0, 0, 0, 0]);
+        let one = manager::grant::grant(empty, 1, 1_000_000_000);
+        let state = manager::grant::grant(one, 2, 1_000_000_000);
+        Bench { state }
     }
-    t
-}
 
-// A request of tenant 1 that writes record 3, as the front entry does: it is Blocked, and no scan promotes it.
-fn blocked(s: State) -> State
-    requires { Sound s }
-    ensures { Sound result }
-{
-    manager::begin::begin(s, 1, 0, &[252, 253], &[3, 254])
-}
+    fn begin(self, who: u8, reads: &[u8], writes: &[u8]) -> Bench {
+        let state = manager::begin::begin(self.state, who, 0, reads, writes);
+        Bench { state }
+    }
 
-// Requests of tenant 1 on records that nobody holds, each finished before the next.
-fn rounds(s: State, n: usize) -> State
-    requires sound { Sound s }
-    requires n_bound { n ≤ 65_535 }
-    ensures { Sound result }
-{
-    let reads = [252u8, 253];
-    let writes = [254u8, 255];
-    let mut t = s;
-    let mut i: usize = 0;
-    while i < n {
-        let serial = (i + 1) as u16;
-        let running = manager::begin::begin(t, 1, 0, &reads, &writes);
-        let next = manager::finish::finish(running, 1, serial);
-        t = next;
-        i += 1;
+    // Tenant 2 holds k entries, each of 2 reads and 2 writes of its own.
+    fn hold(mut self, k: u8) -> Bench
+        requires { k ≤ 63 }
+    {
+        for i in 0..k {
+            let first = 4 * i;
+            self = self.begin(2, &[first, first + 1], &[first + 2, first + 3]);
+        }
+        self
     }
-    t
-}
 
-// Tenant 1's scans, none of which finds an entry to promote.
-fn scans(s: State, n: usize) -> State
-    requires { Sound s }
-    ensures { Sound result }
-{
-    let mut t = s;
-    let mut i: usize = 0;
-    while i < n {
-        let next = manager::scan::scan(t, 1);
-        t = next;
-        i += 1;
+    // A request of tenant 1 that writes record 3, as the front entry does: it is Blocked, and no scan promotes it.
+    fn block(self) -> Bench {
+        self.begin(1, &[252, 253], &[3, 254])
     }
-    t
-}
 
-fn show(rt: &impl Print, s: State) -> io::Result<()> {
-    let m = s.meters[0];
-    println!(rt; "{} {} {}", m.fuel, m.serials, s.count)
-}
+    // A request of tenant 1 on records that nobody holds, and its end. Written with `begin` and a `finish` like it, a round copied the
+    // state 6 times.
+    fn round(self, serial: u16) -> Bench {
+        let running = manager::begin::begin(self.state, 1, 0, &[252, 253], &[254, 255]);
+        let state = manager::finish::finish(running, 1, serial);
+        Bench { state }
+    }
 
-// The work of a letter on k entries held. With none held the scans find an empty queue.
-fn worked(letter: u8, s: State, k: u8, n: usize) -> State
-    requires sound { Sound s }
-    requires n_bound { n ≤ 65_535 }
-    ensures { Sound result }
-{
-    if letter == b'r' {
-        return rounds(s, n);
+    // Requests of tenant 1 on records that nobody holds, each finished before the next.
+    fn rounds(mut self, n: u16) -> Bench {
+        for serial in 1..=n {
+            self = self.round(serial);
+        }
+        self
     }
-    if letter != b's' {
-        return s;
+
+    // A scan of tenant 1, which finds no entry to promote.
+    fn scan(self) -> Bench {
+        let state = manager::scan::scan(self.state, 1);
+        Bench { state }
     }
-    if k == 0 {
-        return scans(s, n);
+
+    fn scans(mut self, n: u16) -> Bench {
+        for _ in 0..n {
+            self = self.scan();
+        }
+        self
     }
-    let full = blocked(s);
-    scans(full, n)
+
+    // The work of a letter on k entries held. With none held the scans find an empty queue.
+    fn work(self, letter: u8, k: u8, n: u16) -> Bench {
+        match letter {
+            b'r' => self.rounds(n),
+            b's' if k == 0 => self.scans(n),
+            b's' => self.block().scans(n),
+            _ => self,
+        }
+    }
+
+    fn show(&self, rt: &impl Print) -> io::Result<()> {
+        let m = self.state.meters[0];
+        println!(rt; "{} {} {}", m.fuel, m.serials, self.state.count)
+    }
 }
 
 fn main(rt: HostRuntime) -> io::Result<()> {
@@ -118,14 +109,10 @@ fn main(rt: HostRuntime) -> io::Result<()> {
     for (byte, given) in input.iter_mut().zip(rt.stdin().bytes()) {
         *byte = given?;
     }
-    let letter = input[0];
-    let k = input[1];
-    let n = 256 * wide(input[2]) + wide(input[3]);
+    let [letter, k, high, low] = input;
     if k <= 63 {
-        let s = opened();
-        let t = held(s, k);
-        let r = worked(letter, t, k, n);
-        show(&rt, r)?;
+        let n = u16::from_be_bytes([high, low]);
+        Bench::open().hold(k).work(letter, k, n).show(&rt)?;
     }
     Ok(())
 }

@@ -60,10 +60,6 @@ pub charge-high : (p : Prices) (fuel n : ℕ) → 11 < n → charge p fuel n ≡
 unfolding charge
 charge-high p fuel n h = simp (costly-range, lt-leb n 11 h, and-false)
 
-pub charge-dry : (p : Prices) (n : ℕ) → charge p 0 n ≡ 0
-unfolding charge
-charge-dry p n = if-either (λ (k : ℕ). k ≡ 0) (member n costly) (omega arith) refl
-
 -- a charged refusal burns the list's charge, or what is left if less
 pub charge-unit : (p : Prices) (fuel n : ℕ) → member n costly ≡ true → charge p fuel n ≡ min p.refused fuel
 unfolding charge

@@ -18,3 +18,4 @@ pub mod Keeps
 pub mod Walks
 pub mod Sound
 pub mod Costly
+pub mod Chains

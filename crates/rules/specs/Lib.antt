@@ -15,3 +15,5 @@ pub mod Clashing
 pub mod Said
 pub mod Sound
 pub mod Runs
+pub mod Numbers
+pub mod Tags

@@ -16,29 +16,24 @@ fn opened() -> State
     manager::grant::grant(empty, 1, 1_000_000_000)
 }
 
-fn scans(s: State, n: u8) -> State
+fn scans(mut s: State, n: u8) -> State
     requires { Sound s }
     ensures { Sound result }
 {
-    let mut t = s;
-    let mut i: u8 = 0;
-    while i < n {
-        let next = manager::scan::scan(t, 1);
-        t = next;
-        i += 1;
+    for _ in 0..n {
+        s = manager::scan::scan(s, 1);
     }
-    t
+    s
 }
 
 fn show(rt: &impl Print, s: State) -> io::Result<()> {
-    let m = s.meters[0];
-    let fuel = m.fuel;
-    writeln!(io::writer(rt), "{fuel}")
+    writeln!(io::writer(rt), "{}", s.meters[0].fuel)
 }
 
 // The scans are called for in two places, and not at all where there are none: so the compiler keeps their frame apart from
 // main's, and a run without them shows what the rest needs.
 fn main(rt: HostRuntime) -> io::Result<()> {
+    // an empty input gives 0
     let mut input = [0u8; 1];
     rt.stdin().read(&mut input)?;
     let n = input[0];

@@ -9,4 +9,4 @@ returns-then-b-ne2176 c = short-linked (λ (whole : length c.args.b.now ≡ 2_17
 pub returns : goal.returns
 returns c =
     let whole : length c.args.b.now ≡ 2_176 = omega arith in
-    opened-linked _ whole c.open-n.ensures c.stored.ensures.b_after c.stored.ensures.value
+    opened-linked _ whole c.open.ensures c.stored.ensures.b_after c.stored.ensures.value

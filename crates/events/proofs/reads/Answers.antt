@@ -1,32 +1,11 @@
--- The part behind r, of r bytes, where a record with lists stands; else an empty part.
-use Rattle.std.proofs.Common.{refl, arith}
+-- Behind the head, as many bytes as it says, where a Begin stands.
+use Rattle.std.proofs.Common.{sym}
 use native.Mathlib.Nat.{add-sub_cancel_left}
-use Rattle.events.proofs.Readers.{no_reads, reads-stand, lists-inside, listed-as, listed-not}
+use Rattle.events.proofs.Bodies.{same_body}
+use Rattle.events.proofs.Readers.{its_reads}
 use Rattle.events.proofs.reads.Goals as goal
 
-pub returns-then-not-row : goal.returns-then-not-row
-returns-then-not-row c =
-    rw (no_reads c.args.s.now c.args.at (listed-not c.args.s.now c.args.at c.shape_at-row.ensures c.if-not-row.true)) c.nothing.ensures
-
-pub overflow_add-a : goal.overflow_add-a
-overflow_add-a c = let inside = lists-inside c.args.s.now c.args.at c.shape_at-row.ensures c.if-not-row.false in omega arith
-
-pub overflow_add-at : goal.overflow_add-at
-overflow_add-at c = let inside = lists-inside c.args.s.now c.args.at c.shape_at-row.ensures c.if-not-row.false in omega arith
-
-pub bounds-s-at : goal.bounds-s-at
-bounds-s-at c = let inside = lists-inside c.args.s.now c.args.at c.shape_at-row.ensures c.if-not-row.false in omega arith
-
-pub overflow_add-e : goal.overflow_add-e
-overflow_add-e c = let inside = lists-inside c.args.s.now c.args.at c.shape_at-row.ensures c.if-not-row.false in omega arith
-
-pub slice_bounds-result-end : goal.slice_bounds-result-end
-slice_bounds-result-end c = let inside = lists-inside c.args.s.now c.args.at c.shape_at-row.ensures c.if-not-row.false in omega arith
-
-pub returns-clause-result_value : goal.returns-clause-result_value
-returns-clause-result_value c =
-    rw (reads-stand c.args.s.now c.args.at (listed-as c.args.s.now c.args.at c.shape_at-row.ensures c.if-not-row.false)) (simp (c.wide.ensures.0, add-sub_cancel_left))
-
-pub returns-clause-ref_ptr_value : goal.returns-clause-ref_ptr_value
-returns-clause-ref_ptr_value c =
-    rw (reads-stand c.args.s.now c.args.at (listed-as c.args.s.now c.args.at c.shape_at-row.ensures c.if-not-row.false)) (refl, omega arith)
+pub returns-in-Ok-Begin-default-clause-result_value : goal.returns-in-Ok-Begin-default-clause-result_value
+returns-in-Ok-Begin-default-clause-result_value c =
+    let told = c.in-Ok-Begin-default in
+    simp (c.from.ensures, told.ensures.body, add-sub_cancel_left) (its_reads told.ensures.whole (sym told.ensures.refused) (same_body told.field-0-0-is))

@@ -1,47 +1,18 @@
--- The part behind the reads, to the end of the body, where a record with lists stands; else an empty part.
-use Rattle.std.proofs.Common.{refl, arith}
-use Rattle.events.proofs.Readers.{no_writes, writes-stand, lists-inside, listed-as, listed-not}
-use Rattle.events.proofs.Parts.{left_behind}
+-- Behind the reads, to the end of the body, where a Begin stands.
+use Rattle.std.proofs.Common.{◌+◌, sym, ◌∙◌, arith}
+use Rattle.std.proofs.lemmas.List.{take_rest}
+use Rattle.events.proofs.Bodies.{same_body}
+use Rattle.events.proofs.Readers.{its_writes, writes-from}
 use Rattle.events.proofs.writes.Goals as goal
 
-pub returns-then-not-row : goal.returns-then-not-row
-returns-then-not-row c =
-    rw (no_writes c.args.s.now c.args.at (listed-not c.args.s.now c.args.at c.shape_at-row.ensures c.if-not-row.true)) c.nothing.ensures
+pub returns-in-Ok-Begin-default-clause-result_value : goal.returns-in-Ok-Begin-default-clause-result_value
+returns-in-Ok-Begin-default-clause-result_value c =
+    let told = c.in-Ok-Begin-default in
+    take_rest told.body.now (3 + c.from.result) ∙ simp (c.from.ensures, told.ensures.body) (its_writes told.ensures.whole (sym told.ensures.refused) (same_body told.field-0-0-is))
 
-pub overflow_add-a : goal.overflow_add-a
-overflow_add-a c = let inside = lists-inside c.args.s.now c.args.at c.shape_at-row.ensures c.if-not-row.false in omega arith
-
-pub overflow_add-at : goal.overflow_add-at
-overflow_add-at c = let inside = lists-inside c.args.s.now c.args.at c.shape_at-row.ensures c.if-not-row.false in omega arith
-
-pub bounds-s-at : goal.bounds-s-at
-bounds-s-at c = let inside = lists-inside c.args.s.now c.args.at c.shape_at-row.ensures c.if-not-row.false in omega arith
-
-pub overflow_add-a-2 : goal.overflow_add-a-2
-overflow_add-a-2 c = let inside = lists-inside c.args.s.now c.args.at c.shape_at-row.ensures c.if-not-row.false in omega arith
-
-pub overflow_add-e : goal.overflow_add-e
-overflow_add-e c = let inside = lists-inside c.args.s.now c.args.at c.shape_at-row.ensures c.if-not-row.false in omega arith
-
-pub length_at-requires : goal.length_at-requires
-length_at-requires c = let inside = lists-inside c.args.s.now c.args.at c.shape_at-row.ensures c.if-not-row.false in omega arith
-
-pub overflow_add-e-2 : goal.overflow_add-e-2
-overflow_add-e-2 c = let inside = lists-inside c.args.s.now c.args.at c.shape_at-row.ensures c.if-not-row.false in omega arith
-
-pub slice_bounds-result-count : goal.slice_bounds-result-count
-slice_bounds-result-count c = let inside = lists-inside c.args.s.now c.args.at c.shape_at-row.ensures c.if-not-row.false in omega arith
-
-pub slice_bounds-result-start : goal.slice_bounds-result-start
-slice_bounds-result-start c = let inside = lists-inside c.args.s.now c.args.at c.shape_at-row.ensures c.if-not-row.false in omega arith
-
-pub slice_bounds-result-end : goal.slice_bounds-result-end
-slice_bounds-result-end c = let inside = lists-inside c.args.s.now c.args.at c.shape_at-row.ensures c.if-not-row.false in omega arith
-
-pub returns-clause-result_value : goal.returns-clause-result_value
-returns-clause-result_value c =
-    rw (writes-stand c.args.s.now c.args.at (listed-as c.args.s.now c.args.at c.shape_at-row.ensures c.if-not-row.false)) (simp (c.wide.ensures.0, c.length_at.ensures.0, left_behind))
-
-pub returns-clause-ref_ptr_value : goal.returns-clause-ref_ptr_value
-returns-clause-ref_ptr_value c =
-    rw (writes-stand c.args.s.now c.args.at (listed-as c.args.s.now c.args.at c.shape_at-row.ensures c.if-not-row.false)) (refl, omega arith)
+pub returns-in-Ok-Begin-default-clause-ref_ptr_value : goal.returns-in-Ok-Begin-default-clause-ref_ptr_value
+returns-in-Ok-Begin-default-clause-ref_ptr_value c =
+    let told = c.in-Ok-Begin-default in
+    let reads = rw told.ensures.body at c.from.ensures in
+    let from = writes-from told.ensures.whole (sym told.ensures.refused) (same_body told.field-0-0-is) in
+    (told.ensures.place.0, omega (arith, told.ensures.place.1, reads, from))

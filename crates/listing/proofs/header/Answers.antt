@@ -6,4 +6,4 @@ use Rattle.listing.proofs.header.Goals as goal
 
 pub returns : goal.returns
 unfolding header_text
-returns c = written-first c.blank.ensures c.with_text.ensures (omega arith)
+returns c = written-first c.new-line.ensures c.push.ensures (omega arith)

@@ -7,4 +7,4 @@ abbrev pub invariant-loop-q : goal.invariant-loop-q
 invariant-loop-q l = Filling l.bytes (rest l.bytes l.fn.p) l.fn.p.at l.out l.q
 
 abbrev pub decreases-loop-q : goal.decreases-loop-q
-decreases-loop-q l = to_read l.bytes l.q
+decreases-loop-q l = to_read l.bytes l.q.at

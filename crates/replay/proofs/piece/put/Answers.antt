@@ -1,10 +1,8 @@
--- One byte more stands at its place.
-use Rattle.std.proofs.Common.{arith, rules, ◌+◌, ◌<◌, length}
-use Rattle.std.proofs.lemmas.List.Edits.{paste_more}
+-- The copy puts the line's bytes at their place.
+use Rattle.std.proofs.Common.{arith}
+use Rattle.std.proofs.lemmas.Slice.{put_mid-paste}
 use Rattle.replay.proofs.piece.put.Goals as goal
 
-pub loop-i-preserved : goal.loop-i-preserved
-loop-i-preserved c =
-    let here : c.args.at + c.loop-i.i < length c.args.out.now = omega arith in
-    let more : c.loop-i.i < length c.args.l.bytes = omega arith in
-    (search rules, rw c.loop-i.invariant.1 (paste_more c.args.out.now c.args.at c.args.l.bytes c.loop-i.i 0 here more))
+pub returns : goal.returns
+returns c =
+    put_mid-paste c.args.at _ c.args.out.now c.copy_from_slice.new.self c.args.l.bytes 64 c.copy_from_slice.ensures.after (omega arith) (omega arith)

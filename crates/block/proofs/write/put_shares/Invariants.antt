@@ -1,0 +1,9 @@
+-- The shares of the meters so far are written.
+use Rattle.std.proofs.Common.{map}
+use Rattle.meter.specs.View.{meter_view}
+use Rattle.block.specs.Bytes.{share_byte}
+use Rattle.block.proofs.Writing.{Rows}
+use Rattle.block.proofs.write.put_shares.Given as goal
+
+abbrev pub invariant-loop-i : goal.invariant-loop-i
+invariant-loop-i l = Rows share_byte 1 3 (map meter_view l.meters) l.fn.b l.i l.b

@@ -1,0 +1,8 @@
+-- Each counter has risen by how often its record stands among those so far, and the map has grown by these.
+use Rattle.std.proofs.Common.{take}
+use Rattle.maps.specs.Maps.{Grown}
+use Rattle.counters.specs.Counters.{Raised}
+use Rattle.counters.proofs.raise.Given as goal
+
+abbrev pub invariant-loop-r : goal.invariant-loop-r
+invariant-loop-r l = Raised l.initial.counters (take l.r-index l.list) l.counters × Grown l.initial.map (take l.r-index l.list) l.map

@@ -1,0 +1,8 @@
+-- What a Recheck does to a table.
+use Rattle.rules.specs.Prices.{prices_of}
+use Rattle.rules.specs.Calls.{recheck_of}
+use Rattle.damsonpouch.specs.contracts.fn.damsonpouch_recheck.on as closure
+use Rattle.damsonpouch.proofs.damsonpouch_recheck.Given as goal
+
+abbrev pub ghost-on : goal.ghost-on
+ghost-on a = λ t. recheck_of (prices_of t) t (closure.captures a.call).tenant (closure.captures a.call).serial
