@@ -172,11 +172,21 @@ fn holds(list: &[u8], r: u8) -> bool
     list.contains(&r)
 }
 
-// Whether a record stands in both lists.
+// Whether a record stands in both lists: every record of one beside every record of the other, left at the first that both have.
+// Document 01: "the comparison stops at the first shared record found", by nested loops that are left by a label.
 pub fn meet(xs: &[u8], ys: &[u8]) -> bool
     ensures { result ≡ meets xs.now ys.now }
 {
-    xs.iter().any(|&x| holds(ys, x))
+    let mut met = false;
+    'pairs: for &x in xs {
+        for &y in ys {
+            if x == y {
+                met = true;
+                break 'pairs;
+            }
+        }
+    }
+    met
 }
 
 // The records of a lent list at the front of an array of 8, the rest zero.

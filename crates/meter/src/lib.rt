@@ -2,7 +2,7 @@
 // Each contract says what the law book's function makes of the meter.
 #![tactic(auto)]
 
-ghost use Rattle.std.specs.Prelude.{◌≡◌, ◌≤◌, ◌<◌, ◌+◌};
+ghost use Rattle.std.specs.Prelude.{◌≡◌, ◌≤◌, ◌<◌, ◌+◌, ◌-◌};
 ghost use Rattle.rules.specs.Table.{spent, new_meter, granted, numbered};
 ghost use Rattle.meter.specs.View.{meter_view};
 
@@ -13,13 +13,21 @@ pub struct Meter {
     pub share: u8,
 }
 
+// The fuel that is left once the price is paid.
+fn less(fuel: u32, price: u32) -> u32
+    requires { price ≤ fuel }
+    ensures { result ≡ fuel - price }
+{
+    fuel - price
+}
+
 // Lowers the lent meter's fuel by the price, and leaves the rest as it was.
 // Document 01: "The tenant's meter is lent to the charge, which alone lowers fuel".
 fn charge(m: &mut Meter, price: u32)
     requires { price ≤ m.old.fuel }
     ensures { meter_view m.new ≡ spent (meter_view m.old) price }
 {
-    m.fuel -= price;
+    m.fuel = less(m.fuel, price);
 }
 
 // The meter once the price is paid: it lends its own copy to the charge, and gives it back.

@@ -60,7 +60,7 @@ module _ {A : Type 0} (l : List A) (at n : ℕ) (z : A) (h : at ≤ n) (lt : n <
       (λ (behind : at ≤ j). let same : get_or (take at (take (n + 1) l) ++ drop (at + 1) (take (n + 1) l)) j d ≡ get_or l (j + 1) d = grind (arith, common_steps) in subst P (sym (left ∙ same)) (all (j + 1) (omega arith)))
       (lt-or-ge j at)
 
--- ---- place by place, as a loop over an array does it
+-- ---- place by place
 module _ {A : Type 0} where
   -- the list without its element at n
   abbrev without : ℕ → List A → List A
