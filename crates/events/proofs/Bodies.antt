@@ -1,7 +1,7 @@
 -- The body of a whole record with lists: how long it is, and where its lists stand in the file.
 use Prim.Native.Nat.{ℕ, ◌+◌, ◌-◌, ◌≤◌}
-use mathlib.Core.Path.{◌≡◌, ap, ◌∙◌}
-use mathlib.Core.Bool.{true}
+use mathlib.Core.Path.{◌≡◌, refl, sym, ap, ◌∙◌}
+use mathlib.Core.Bool.{true, false, true≢false}
 use mathlib.Core.List.{List}
 use native.Mathlib.Omega.{arith}
 use lib.Dec.{leb}
@@ -9,13 +9,20 @@ use lib.ListN.{take, drop}
 use lib.Seq.{take-take}
 use borrow.Author.Tests.{leb-true}
 use Rattle.rules.specs.declared.Kind.{Kind}
-use Rattle.rules.specs.CallTable.{Body, lists, row_of}
+use Rattle.std.specs.Prelude.{Option}
+use Rattle.std.specs.Option.{is_some}
+use Rattle.rules.specs.CallTable.{Body, bytes, lists, row_of}
 use Rattle.rules.proofs.Tests.{both}
-use Rattle.events.specs.Events.{byte_at, length_at, body_at, count_in, fits, Whole}
+use Rattle.events.specs.Events.{byte_at, length_at, body_at, count_in, fits, length_of, Whole}
 use Rattle.events.proofs.Parts.{rest-of-part, third-byte}
 
 pub same_body : {k kind : Kind} → k ≡ kind → (row_of k).body ≡ (row_of kind).body
 same_body e = ap (λ (x : Kind). (row_of x).body) e
+
+-- a body that has no length of its own has lists
+pub has-lists : {n : Option ℕ} {b : Body} → n ≡ length_of b → is_some n ≡ false → b ≡ lists
+has-lists {b = bytes m} e none = absurd (true≢false (sym (ap is_some e) ∙ none))
+has-lists {b = lists} e none = refl
 
 module _ {file : List ℕ} {at : ℕ} {k : Kind} (w : Whole file at k) where
   abbrev body : List ℕ

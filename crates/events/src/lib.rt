@@ -4,7 +4,7 @@
 ghost use Rattle.std.specs.Prelude.{◌≡◌, [], ◌+◌, ◌≤◌, true, IfOk, length};
 ghost use Rattle.rules.specs.Numbers.{refused_by};
 ghost use Rattle.rules.specs.Refusals.{first_of};
-ghost use Rattle.rules.specs.CallTable.{row_of};
+ghost use Rattle.rules.specs.CallTable.{row_of, is_opening};
 ghost use Rattle.rules.specs.Runs.{event_of};
 ghost use Rattle.rules.specs.Tags.{kind_of};
 ghost use Rattle.events.specs.Events.{two_at, tag_at, body_at, count_in, fits as fits_body, misplaced as misplaced_tag, record_rows, file_rows, too_long, call_of, read_as, record_at};
@@ -124,11 +124,22 @@ fn event_of(kind: Kind, body: &[u8]) -> Event
     }
 }
 
+// Whether a call opens a new sequence of calls.
+fn opens(kind: Kind) -> bool
+    ensures { result ≡ is_opening (row_of kind).role }
+{
+    match kind {
+        Kind::Open => true,
+        Kind::Grant | Kind::Begin | Kind::Scan | Kind::Pick => false,
+        Kind::Finish | Kind::Recheck | Kind::Deliver | Kind::Evict | Kind::Cancel => false,
+    }
+}
+
 // Whether the first record is not Open, or a later one is.
 fn misplaced(kind: Kind, first: bool) -> bool
     ensures { result ≡ misplaced_tag (Some kind) first }
 {
-    first != (kind == Kind::Open)
+    first != opens(kind)
 }
 
 // The event of the record at a position, and where the next record begins; or what is wrong with the record.
@@ -171,8 +182,8 @@ pub fn shares(s: &[u8], at: usize) -> &[u8]
     ensures ref_ptr_value { (result.ref_ptr.0 ≡ s.entry.ref_ptr.0) × (result.ref_ptr.1 ≡ s.entry.ref_ptr.1 + (shares_part s.now at).from) }
 {
     match record_of(s, at) {
-        Ok((Kind::Open, body)) => body,
-        _ => nothing(s),
+        Ok((kind, body)) if opens(kind) => body,
+        Ok(_) | Err(_) => nothing(s),
     }
 }
 
@@ -183,8 +194,8 @@ pub fn reads(s: &[u8], at: usize) -> &[u8]
     ensures ref_ptr_value { (result.ref_ptr.0 ≡ s.entry.ref_ptr.0) × (result.ref_ptr.1 ≡ s.entry.ref_ptr.1 + (reads_part s.now at).from) }
 {
     match record_of(s, at) {
-        Ok((Kind::Begin, body)) => &body[3..3 + usize::from(body[2])],
-        _ => nothing(s),
+        Ok((kind, body)) if bytes_of(kind).is_none() => &body[3..3 + usize::from(body[2])],
+        Ok(_) | Err(_) => nothing(s),
     }
 }
 
@@ -195,7 +206,7 @@ pub fn writes(s: &[u8], at: usize) -> &[u8]
     ensures ref_ptr_value { (result.ref_ptr.0 ≡ s.entry.ref_ptr.0) × (result.ref_ptr.1 ≡ s.entry.ref_ptr.1 + (writes_part s.now at).from) }
 {
     match record_of(s, at) {
-        Ok((Kind::Begin, body)) => &body[3 + usize::from(body[2])..],
-        _ => nothing(s),
+        Ok((kind, body)) if bytes_of(kind).is_none() => &body[3 + usize::from(body[2])..],
+        Ok(_) | Err(_) => nothing(s),
     }
 }
