@@ -41,13 +41,6 @@ fn zeros(p: &[u8]) -> bool
     any == 0
 }
 
-// The same of a row's unused records, with a way out: so few are told sooner one after the other.
-fn few_zeros(p: &[u8]) -> bool
-    ensures { Tells result (p.now ≡ replicate (length p.now) 0) }
-{
-    p.iter().all(|x| *x == 0)
-}
-
 // Whether two lists of bytes of one length are the same.
 fn same(x: &[u8], y: &[u8]) -> bool
     requires { length x.now ≡ length y.now }
@@ -102,7 +95,8 @@ fn lists_fit(row: Row) -> bool
     if !entry::rises(reads) || !entry::rises(writes) || entry::meet(reads, writes) {
         return false;
     }
-    few_zeros(row.unused())
+    let unused = row.unused();
+    unused.is_empty() || zeros(unused)
 }
 
 // The row of an entry's 24 bytes, if it fits by what these tell by themselves.
