@@ -68,8 +68,9 @@ fn fresh(shares: &[u8; 16], answer: Answer) -> State
 pub fn open(shares: &[u8]) -> State
     ensures { Did result (open_of shares.now) }
 {
-    match judged(shares) {
-        Ok(all) => fresh(all, Answer::Ok),
-        Err(why) => fresh(&[0; 16], Answer::Refused(why.number())),
-    }
+    let (all, answer) = match judged(shares) {
+        Ok(all) => (*all, Answer::Ok),
+        Err(why) => ([0; 16], Answer::Refused(why.number())),
+    };
+    fresh(&all, answer)
 }

@@ -6,15 +6,18 @@ use Rattle.rules.proofs.Refusals.{open-passes}
 use Rattle.rules.proofs.Sound.{fresh-sound, shut-sound}
 use Rattle.manager.proofs.Done.{host-told, host-done}
 use Rattle.manager.proofs.open.open.Goals as goal
+use Rattle.manager.proofs.open.open.Goals.{in-Ok, in-Err}
 
-pub returns-in-Ok : goal.returns-in-Ok
+pub returns : goal.returns
 unfolding open_of
-returns-in-Ok c =
-    let fits = open-passes _ c.in-Ok.ensures.0 in
-    host-done _ _ c.in-Ok.ensures.0 (fresh-sound _ fits.0 fits.1) (rw c.in-Ok.ensures.1 at c.fresh.ensures.becomes) c.fresh.ensures.answer_value.0 c.fresh.ensures.answer_value.1
-
-pub returns-in-Err : goal.returns-in-Err
-unfolding open_of
-returns-in-Err c =
-    let says = c.fresh-in-Err.ensures.answer_value in
-    host-told _ _ _ c.in-Err.why c.in-Err.ensures shut-sound c.fresh-in-Err.ensures.becomes (says.0 ∙ ap Refused c.number.ensures) says.1
+returns c = elim c.match-judged.branch [
+  | in-Ok w ↦
+      let fits = open-passes _ w.in-Ok.ensures.0 in
+      let becomes = rw w.answer-is at c.fresh.ensures.becomes in
+      let says = rw w.answer-is at c.fresh.ensures.answer_value in
+      host-done _ _ w.in-Ok.ensures.0 (fresh-sound _ fits.0 fits.1) (rw w.in-Ok.ensures.1 at becomes) says.0 says.1
+  | in-Err w ↦
+      let becomes = rw w.answer-is at c.fresh.ensures.becomes in
+      let says = rw w.answer-is at c.fresh.ensures.answer_value in
+      host-told _ _ _ w.in-Err.why w.in-Err.ensures shut-sound becomes (says.0 ∙ ap Refused w.number.ensures) says.1
+]
