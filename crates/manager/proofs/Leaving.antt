@@ -52,15 +52,16 @@ module _ {s : State} (t : Tied s) (full : length s.entries ≡ 64) {at : ℕ} (t
   pub stocked-reads : {rs : List ℕ} → rs ≡ (request (get_or s.entries at blank)).reads → Stocked s.cs rs
   stocked-reads is = subst (Stocked s.cs) (sym (is ∙ own-reads)) (reads-stocked t at there stored)
 
-  pub leaves : {x y v w ws rs : List ℕ} {next : List Entry} {z : Entry} {burnt : ℕ} → ws ≡ (request (get_or s.entries at blank)).writes → rs ≡ (request (get_or s.entries at blank)).reads → Raised x ws s.cx → Raised y rs s.cs → Marks v x → Marks w y → next ≡ paste s.entries at (drop (at + 1) s.entries) (s.count - (at + 1)) → z ≡ no_entry → Gone s at burnt (record { cx = x; cs = y; maps = record { written = v; read = w }; meters = s.meters; count = s.count - 1; entries = set next (s.count - 1) z; said = record { answer = Done; burnt = burnt } })
-  leaves {x} {y} ws rs writers readers written read moved z = rw z
+  -- n entries behind the place were moved up: all that there are
+  pub leaves : {x y v w ws rs : List ℕ} {next : List Entry} {n : ℕ} {z : Entry} {burnt : ℕ} → ws ≡ (request (get_or s.entries at blank)).writes → rs ≡ (request (get_or s.entries at blank)).reads → Raised x ws s.cx → Raised y rs s.cs → Marks v x → Marks w y → next ≡ paste s.entries at (drop (at + 1) s.entries) n → (at < s.count → n ≡ s.count - (at + 1)) → z ≡ no_entry → Gone s at burnt (record { cx = x; cs = y; maps = record { written = v; read = w }; meters = s.meters; count = s.count - 1; entries = set next (s.count - 1) z; said = record { answer = Done; burnt = burnt } })
+  leaves {x} {y} ws rs writers readers written read moved all z = rw z
       (record {
         state =
             leaves-becomes t at there stored
             (subst (λ l. Raised x l s.cx) (ws ∙ own-writes) writers)
             (subst (λ l. Raised y l s.cs) (rs ∙ own-reads) readers)
             written read
-            (removed-holds slots (omega (arith, used)) (omega (arith, used)) moved);
+            (removed-holds slots (omega (arith, used)) (omega (arith, used)) (moved ∙ ap (paste s.entries at (drop (at + 1) s.entries)) (all used)));
         answer = refl;
         burnt = refl;
       })

@@ -1,4 +1,4 @@
-use Rattle.std.proofs.Common.{rules}
+use Rattle.std.proofs.Common.{rules, arith}
 use Rattle.manager.proofs.Leaving.{stocked-writes, stocked-reads, leaves}
 use Rattle.manager.proofs.places.release.Goals as goal
 
@@ -13,4 +13,4 @@ returns c =
     leaves c.requires.tied (search rules) c.requires.at_in_bounds c.requires.stored
     c.writes.ensures.value c.reads.ensures.value
     c.lower.ensures.raised c.lower-2.ensures.raised c.lower.ensures.marks_2 c.lower-2.ensures.marks_2
-    c.copy_within.ensures.after c.empty.ensures
+    c.copy_within.ensures.after (λ used. omega arith) c.empty.ensures
