@@ -227,10 +227,10 @@ module _ {b : List ℕ} {i : ℕ} {last left x y : List ℕ} (s : Swept b i last
       let over : drop i (rows_in b) ≡ [] = drop_of_length-le (rows_in b) (let z : length (rows_in b) ≤ i = omega (arith, tab-length (row_at b) (count_in b)) in z) in
       s.asks.from (rw over (record { fits = none; past = none; known = none; rise = InOrder.none; room = λ who one. omega arith; free = none; clear = InOrder.none }))
 
-  swept-writers : x ≡ tab (cx (queue_in b)) 256
+  pub swept-writers : x ≡ tab (cx (queue_in b)) 256
   swept-writers = tab-of (cx (queue_in b)) 256 x s.wide (rw all at s.writers.each)
 
-  swept-readers : y ≡ tab (cs (queue_in b)) 256
+  pub swept-readers : y ≡ tab (cs (queue_in b)) 256
   swept-readers = tab-of (cs (queue_in b)) 256 y s.wide' (rw all at s.readers.each)
 
   -- and what a comparison with the block's tells

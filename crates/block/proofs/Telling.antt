@@ -1,6 +1,6 @@
 -- An answer tells whether something holds: the ways out of a function that tells, and what a call has told it.
 use Prim.Native.Nat.{ℕ, ◌≤◌}
-use mathlib.Core.Path.{◌≡◌, sym}
+use mathlib.Core.Path.{◌≡◌, sym, ◌∙◌}
 use mathlib.Core.Bool.{Bool, true, false, true≢false}
 use native.Mathlib.Omega.{arith}
 use lib.Dec.{eqb, leb}
@@ -9,6 +9,9 @@ use Rattle.block.specs.Check.{Tells}
 
 pub tells-no : {P : Type 0} → (P → ⊥) → Tells false P
 tells-no h = record { yes = λ z. absurd (true≢false (sym z)); other = λ z. h }
+
+pub test-tells : {r t : Bool} → r ≡ t → Tells r (t ≡ true)
+test-tells e = record { yes = λ y. sym e ∙ y; other = λ n t. true≢false (sym t ∙ sym e ∙ n) }
 
 -- ---- a call tells of a part
 module _ {r : Bool} {P : Type 0} (told : Tells r P) where

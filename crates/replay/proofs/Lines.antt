@@ -27,7 +27,7 @@ module _ (file : List ℕ) (at : ℕ) (first : Bool) where
   later-by (Next.Refused k) q on = absurd (let o : ◌≡◌ {A = ℕ} 0 1 = cc in omega arith)
   later-by Next.End q on = absurd (let o : ◌≡◌ {A = ℕ} 0 1 = cc in omega arith)
 
-  later : goes_on (record_at file at first) ≡ true → Later file at (place_by at (record_at file at first))
+  pub later : goes_on (record_at file at first) ≡ true → Later file at (place_by at (record_at file at first))
   later on = later-by (record_at file at first) refl on
 
   pub later-next : {n : ℕ} → next_by (record_at file at first) ≡ Some n → Later file at n

@@ -80,6 +80,17 @@ abbrev pub to_read : List ℕ → Option ℕ → ℕ
 to_read file (Some at) = suc (length file - at)
 to_read file None = 0
 
+pub reads-less : (file : List ℕ) (p r : Place) {from : ℕ} → p.at ≡ Some from → Ready file r → Onward p r → to_read file r.at < to_read file p.at
+reads-less file p r {from} here ready on = rw here (go r.at refl)
+  where
+    go : (o : Option ℕ) → r.at ≡ o → to_read file o < suc (length file - from)
+    go (Some to) e =
+        let (a, is, less) = on to e in
+        let same : a ≡ from = cc in
+        let w = ready.within to e in
+        omega (arith, w.inside, less)
+    go None e = omega arith
+
 -- ---- the first piece
 module _ (file out : List ℕ) (room : Room out) {h : Line} (w : Written header_text h) where
   pub headed-room : Room (paste out 0 h.bytes 64)
